@@ -1,0 +1,12 @@
+pub mod Cells
+pub mod Normal
+pub mod Form
+pub mod Soundness
+pub mod Events
+pub mod Scan
+pub mod Walking
+pub mod Moving
+pub mod Ticking
+pub mod Placing
+pub mod Pushing
+pub mod Same

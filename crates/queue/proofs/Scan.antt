@@ -1,0 +1,238 @@
+-- Laws of the check of a row in one pass: the table of ids, the sum of the gaps, the tail, and that they are soundness. Over any M and D. Assumes nothing.
+use mathlib.Core.Path.{_≡_, refl, sym, ap, _∙_}
+use mathlib.Core.Bool.{Bool, true, false, not}
+use mathlib.Core.List.{List, [], _∷_, _++_, append-assoc, append-nil}
+use Prim.Native.Nat.{ℕ, zero, suc, _+_, _-_, _≤_, _<_}
+use native.Mathlib.Omega.{arith}
+use native.Mathlib.Numerals.{add-one}
+use lib.Dec.{leb, eqb}
+use lib.ListN.{length, getD, take, drop, set, replicate, length-set, length-drop, getD-replicate, take-append-drop}
+use lib.Seq.{getD-set-same, getD-set-other, getD-take, take-suc}
+use borrow.Author.Tests.{eq-eqb, ne-eqb, le-leb, lt-leb, leb-true, leb-false, eqb-true, eqb-false, not-true}
+use Rattle.refusal.specs.Small.{pick, both, padded}
+use Rattle.refusal.proofs.Small.{both-left, both-right, both-false, both-swap, contrary}
+use Rattle.queue.specs.Limits.{cellCount, filler}
+use Rattle.queue.specs.Row.{Event, event, cell, cellsOf, queueOf, eventAt, eventsOf, eventsFrom, normal}
+use Rattle.queue.specs.Sound.{sameCells, sameb, hasb, distinctb, nearb, soundb}
+use Rattle.queue.specs.Moves.{spacedb, normb, gapsOf, rowb, zerob}
+use Rattle.queue.specs.declared.Cell.{Cell}
+use Rattle.queue.specs.declared.Queue.{Queue}
+use Rattle.queue.proofs.Cells.{cells-length, made-cells}
+use Rattle.queue.proofs.Normal.{proper, proper-events}
+use Rattle.queue.proofs.Form.{normb-is, normb-normal}
+use Rattle.queue.proofs.Soundness.{same-queue}
+
+pub above-zero : (n : ℕ) → leb 1 n ≡ not (eqb n 0)
+above-zero n = go (eqb n 0) refl
+  where
+    go : (b : Bool) → eqb n 0 ≡ b → leb 1 n ≡ not b
+    go true q = let z : n ≡ 0 = eqb-true n 0 q in lt-leb 1 n (omega arith)
+    go false q = let z : n ≡ 0 → ⊥ = eqb-false n 0 q in le-leb 1 n (omega arith)
+
+-- THE TAIL
+
+-- a sum that stays zero
+pub zero-sum : (s a b : ℕ) (z : Bool) → both (eqb s 0) (both (both (eqb a 0) (eqb b 0)) z) ≡ both (eqb (s + a + b) 0) z
+zero-sum s a b z = go (eqb s 0) (eqb a 0) (eqb b 0) refl refl refl
+  where
+    go : (u v w : Bool) → eqb s 0 ≡ u → eqb a 0 ≡ v → eqb b 0 ≡ w → both u (both (both v w) z) ≡ both (eqb (s + a + b) 0) z
+    go true true true p q r =
+        let d : s ≡ 0 = eqb-true s 0 p in
+        let e : a ≡ 0 = eqb-true a 0 q in
+        let f : b ≡ 0 = eqb-true b 0 r in
+        rw (eq-eqb (s + a + b) 0 (omega arith))
+    go false v w p q r = let d : s ≡ 0 → ⊥ = eqb-false s 0 p in rw (ne-eqb (s + a + b) 0 (λ h. d (omega arith)))
+    go true false w p q r = let d : a ≡ 0 → ⊥ = eqb-false a 0 q in rw (ne-eqb (s + a + b) 0 (λ h. d (omega arith)))
+    go true true false p q r = let d : b ≡ 0 → ⊥ = eqb-false b 0 r in rw (ne-eqb (s + a + b) 0 (λ h. d (omega arith)))
+
+-- THE IDS
+
+pub has-append : (id : ℕ) (es fs : List Event) → hasb id (es ++ fs) ≡ pick (hasb id es) true (hasb id fs)
+has-append id [] fs = refl
+has-append id (e ∷ es) fs = go (eqb (e .id) id) (has-append id es fs)
+  where
+    go : (b : Bool) → hasb id (es ++ fs) ≡ pick (hasb id es) true (hasb id fs) → pick b true (hasb id (es ++ fs)) ≡ pick (pick b true (hasb id es)) true (hasb id fs)
+    go true h = refl
+    go false h = h
+
+-- no filler is among events that are none
+pub filler-not : (es : List Event) → proper es → hasb filler es ≡ false
+filler-not [] p = refl
+filler-not (e ∷ es) p = rw (p .0) (filler-not es (p .1))
+
+-- an event is among those that it stands in
+pub has-here : (id : ℕ) (es : List Event) (x : Event) (fs : List Event) → eqb (x .id) id ≡ true → hasb id (es ++ (x ∷ fs)) ≡ true
+has-here id [] x fs h = rw h
+has-here id (e ∷ es) x fs h = go (eqb (e .id) id) (has-here id es x fs h)
+  where
+    go : (b : Bool) → hasb id (es ++ (x ∷ fs)) ≡ true → pick b true (hasb id (es ++ (x ∷ fs))) ≡ true
+    go true r = refl
+    go false r = r
+
+-- one more event leaves events distinct where its id is not among theirs
+pub distinct-more : (es : List Event) (x : Event) → distinctb es ≡ true → hasb (x .id) es ≡ false → distinctb (es ++ (x ∷ [])) ≡ true
+distinct-more [] x d h = refl
+distinct-more (e ∷ es) x d h = go (eqb (e .id) (x .id)) refl h (distinct-more es x (both-right (not (hasb (e .id) es)) _ d))
+  where
+    go : (b : Bool) → eqb (e .id) (x .id) ≡ b → pick b true (hasb (x .id) es) ≡ false → (hasb (x .id) es ≡ false → distinctb (es ++ (x ∷ [])) ≡ true)
+        → distinctb (e ∷ es ++ (x ∷ [])) ≡ true
+    go true q f r = contrary refl f
+    go false q f r =
+        let n : eqb (x .id) (e .id) ≡ false = ne-eqb (x .id) (e .id) (λ p. eqb-false (e .id) (x .id) q (sym p)) in
+        rw (has-append (e .id) es (x ∷ []), not-true (hasb (e .id) es) (both-left _ _ d), n) (r f)
+
+-- and does not where it is
+pub distinct-twice : (es : List Event) (x : Event) (fs : List Event) → hasb (x .id) es ≡ true → distinctb (es ++ (x ∷ fs)) ≡ false
+distinct-twice [] x fs h = contrary h refl
+distinct-twice (e ∷ es) x fs h = go (eqb (e .id) (x .id)) refl h (distinct-twice es x fs)
+  where
+    go : (b : Bool) → eqb (e .id) (x .id) ≡ b → pick b true (hasb (x .id) es) ≡ true → (hasb (x .id) es ≡ true → distinctb (es ++ (x ∷ fs)) ≡ false)
+        → distinctb (e ∷ es ++ (x ∷ fs)) ≡ false
+    go true q f r = rw (has-here (e .id) es x fs (eq-eqb (x .id) (e .id) (sym (eqb-true (e .id) (x .id) q))))
+    go false q f r = rw (r f) (both-false (not (hasb (e .id) (es ++ (x ∷ fs)))))
+
+-- THE PASS
+
+pub gaps-append : (cs ds : List Cell) → gapsOf (cs ++ ds) ≡ gapsOf cs + gapsOf ds
+gaps-append [] ds = omega arith
+gaps-append (c ∷ cs) ds = rw (gaps-append cs ds) (omega arith)
+
+pub events-append : (t : ℕ) (cs ds : List Cell) → eventsFrom t (cs ++ ds) ≡ eventsFrom t cs ++ eventsFrom (t + gapsOf cs) ds
+events-append t [] ds = let e : t + 0 ≡ t = omega arith in rw e
+events-append t (c ∷ cs) ds =
+    let e : t + (c .gap + gapsOf cs) ≡ t + c .gap + gapsOf cs = omega arith in
+    rw (events-append (t + c .gap) cs ds, e, append-assoc)
+
+-- how many ids there are, the filler's included
+abbrev pub idCount : ℕ
+idCount = 256
+
+-- a table whose marks are the ids of events, with one cell more; a filler leaves none
+pub marked-more : (es : List Event) (seen : List Bool) (id at : ℕ) → proper es → length seen ≡ idCount → id < idCount
+    → ((k : ℕ) → k < idCount → getD seen k false ≡ hasb k es)
+    → (k : ℕ) → k < idCount → getD (set seen id (not (eqb id filler))) k false ≡ hasb k (es ++ eventAt id at)
+marked-more es seen id at p full small m k h = rw (has-append k es (eventAt id at)) (go (eqb k id) (eqb id filler) refl refl)
+  where
+    either-true : (b : Bool) → pick b true true ≡ true
+    either-true true = refl
+    either-true false = refl
+
+    either-false : (b : Bool) → pick b true false ≡ b
+    either-false true = refl
+    either-false false = refl
+
+    go : (u b : Bool) → eqb k id ≡ u → eqb id filler ≡ b → getD (set seen id (not b)) k false ≡ pick (hasb k es) true (hasb k (pick b [] (event id at ∷ [])))
+    go true true q r =
+        let a : k ≡ id = eqb-true k id q in
+        let f : hasb id es ≡ false = rw (eqb-true id filler r) (filler-not es p) in
+        rw (a, f) (getD-set-same seen id false false (omega arith))
+    go true false q r =
+        let a : k ≡ id = eqb-true k id q in
+        rw (a, eq-eqb id id refl, either-true (hasb id es)) (getD-set-same seen id true false (omega arith))
+    go false true q r = getD-set-other seen id k false false (eqb-false k id q) ∙ m k h ∙ sym (either-false (hasb k es))
+    go false false q r =
+        let n : eqb id k ≡ false = ne-eqb id k (λ e. eqb-false k id q (sym e)) in
+        rw n (getD-set-other seen id k true false (eqb-false k id q) ∙ m k h ∙ sym (either-false (hasb k es)))
+
+-- what is known behind the cells `past`: the ids that are marked are those of their events, which are distinct, and `at` is the sum of their gaps
+pub record Scanned (past : List Cell) (seen : List Bool) (at : ℕ) : Type 0 where
+  pub full : length seen ≡ idCount
+  pub marked : (k : ℕ) → k < idCount → getD seen k false ≡ hasb k (eventsFrom 0 past)
+  pub distinct : distinctb (eventsFrom 0 past) ≡ true
+  pub sum : at ≡ gapsOf past
+
+pub scanned-none : Scanned [] (replicate idCount false) 0
+scanned-none = record { full = refl; marked = λ k h. getD-replicate idCount k false false h; distinct = refl; sum = refl }
+
+module _ (past : List Cell) (seen : List Bool) (at : ℕ) (s : Scanned past seen at) (c : Cell) (small : c .id < idCount) where
+  -- an id that is marked already
+  pub scanned-twice : (rest : List Cell) → getD seen (c .id) false ≡ true → distinctb (eventsFrom 0 (past ++ (c ∷ rest))) ≡ false
+  scanned-twice rest h =
+      let m : hasb (c .id) (eventsFrom 0 past) ≡ true = sym (s .marked (c .id) small) ∙ h in
+      rw (events-append 0 past (c ∷ rest)) (go (eqb (c .id) filler) refl m)
+    where
+      go : (b : Bool) → eqb (c .id) filler ≡ b → hasb (c .id) (eventsFrom 0 past) ≡ true
+          → distinctb (eventsFrom 0 past ++ (pick b [] (event (c .id) (0 + gapsOf past + c .gap) ∷ []) ++ eventsFrom (0 + gapsOf past + c .gap) rest)) ≡ false
+      go true q m = contrary m (rw (eqb-true (c .id) filler q) (filler-not (eventsFrom 0 past) (proper-events 0 past)))
+      go false q m = distinct-twice (eventsFrom 0 past) (event (c .id) (0 + gapsOf past + c .gap)) (eventsFrom (0 + gapsOf past + c .gap) rest) m
+
+  -- and one that is not
+  pub scanned-more : getD seen (c .id) false ≡ false → Scanned (past ++ (c ∷ [])) (set seen (c .id) (not (eqb (c .id) filler))) (at + c .gap)
+  scanned-more h =
+      record {
+        full = length-set seen (c .id) (not (eqb (c .id) filler)) ∙ s .full;
+        marked = rw (one, append-nil) (marked-more (eventsFrom 0 past) seen (c .id) (0 + gapsOf past + c .gap) (proper-events 0 past) (s .full) small (s .marked));
+        distinct = rw (one, append-nil) (go (eqb (c .id) filler));
+        sum = rw (gaps-append past (c ∷ [])) (omega (arith, s .sum));
+      }
+    where
+      one : eventsFrom 0 (past ++ (c ∷ [])) ≡ eventsFrom 0 past ++ (eventAt (c .id) (0 + gapsOf past + c .gap) ++ [])
+      one = events-append 0 past (c ∷ [])
+
+      go : (b : Bool) → distinctb (eventsFrom 0 past ++ pick b [] (event (c .id) (0 + gapsOf past + c .gap) ∷ [])) ≡ true
+      go true = rw append-nil (s .distinct)
+      go false = distinct-more (eventsFrom 0 past) (event (c .id) (0 + gapsOf past + c .gap)) (s .distinct) (sym (s .marked (c .id) small) ∙ h)
+
+-- a walk over the cells in use: one more is passed
+pub cells-past : (q : Queue) → length (q .cells) ≡ cellCount → q .len ≤ cellCount → (i : ℕ) → i < q .len
+    → take (i + 1) (cellsOf q) ≡ take i (cellsOf q) ++ (getD (q .cells) i (cell 0 0) ∷ [])
+unfolding cellsOf
+cells-past q full fits i k =
+    let m : length (take (q .len) (q .cells)) ≡ q .len = cells-length q full fits in
+    let e : getD (take (q .len) (q .cells)) i (cell 0 0) ≡ getD (q .cells) i (cell 0 0) = getD-take (q .len) (q .cells) i (cell 0 0) k in
+    rw (add-one, ← e) (take-suc (take (q .len) (q .cells)) i (cell 0 0) (omega arith))
+
+-- THE WHOLE
+
+-- behind the last event of a row in normal form nothing stands: the sum of the gaps is the longest distance
+pub near-end : (M D t : ℕ) (b : Bool) (cs : List Cell) → normb M b cs ≡ true → (b ≡ false → t ≤ D) → nearb D (eventsFrom t cs) ≡ leb (t + gapsOf cs) D
+near-end M D t b [] h l = let k : t ≤ D = l (not-true b h) in sym (le-leb (t + 0) D (omega arith))
+near-end M D t b (c ∷ cs) h l =
+    let e : t + (c .gap + gapsOf cs) ≡ t + c .gap + gapsOf cs = omega arith in
+    rw e (go (eqb (c .id) filler) (leb (t + c .gap) D) refl (both-right (spacedb M b c) _ h) (λ b. near-end M D (t + c .gap) b cs))
+  where
+    go : (f g : Bool) → leb (t + c .gap) D ≡ g → normb M f cs ≡ true
+        → ((b : Bool) → normb M b cs ≡ true → (b ≡ false → t + c .gap ≤ D) → nearb D (eventsFrom (t + c .gap) cs) ≡ leb (t + c .gap + gapsOf cs) D)
+        → nearb D (pick f [] (event (c .id) (t + c .gap) ∷ []) ++ eventsFrom (t + c .gap) cs) ≡ leb (t + c .gap + gapsOf cs) D
+    go true g p n r = r true n (λ z. contrary refl z)
+    go false true p n r = rw p (r false n (λ z. leb-true (t + c .gap) D p))
+    go false false p n r = let k : D < t + c .gap = leb-false (t + c .gap) D p in rw p (sym (lt-leb (t + c .gap + gapsOf cs) D (omega arith)))
+
+same-append : (cs ds es : List Cell) → sameCells (cs ++ ds) (cs ++ es) ≡ sameCells ds es
+same-append [] ds es = refl
+same-append (c ∷ cs) ds es = rw (eq-eqb (c .id) (c .id) refl, eq-eqb (c .gap) (c .gap) refl) (same-append cs ds es)
+
+same-zero : (n : ℕ) (cs : List Cell) → length cs ≡ n → sameCells cs (replicate n (cell 0 0)) ≡ zerob cs
+same-zero zero [] h = refl
+same-zero zero (c ∷ cs) h = absurd (omega arith)
+same-zero (suc n) [] h = absurd (omega arith)
+same-zero (suc n) (c ∷ cs) h = ap (both (both (eqb (c .id) 0) (eqb (c .gap) 0))) (same-zero n cs (omega arith))
+
+-- the queue of its own cells has zero past the last
+same-tail : (q : Queue) → length (q .cells) ≡ cellCount → q .len ≤ cellCount → sameb q (queueOf (cellsOf q)) ≡ zerob (drop (q .len) (q .cells))
+unfolding cellsOf sameb queueOf
+same-tail q full fits =
+    let rest = drop (q .len) (q .cells) in
+    let n : length (cellsOf q) ≡ q .len = cells-length q full fits in
+    rw (eq-eqb (q .len) (length (cellsOf q)) (sym n))
+    (ap (λ (cs : List Cell). sameCells cs (padded (cell 0 0) cellCount (cellsOf q))) (sym (take-append-drop (q .len) (q .cells)))
+    ∙ same-append (cellsOf q) rest (replicate (cellCount - length (cellsOf q)) (cell 0 0))
+    ∙ same-zero (cellCount - length (cellsOf q)) rest (simp length-drop (omega arith)))
+
+-- soundness is what the passes over the row and over the tail find
+pub sound-scan : (M D : ℕ) (q : Queue) → 1 ≤ M → length (q .cells) ≡ cellCount → q .len ≤ cellCount
+    → soundb M D q ≡ both (rowb M D (cellsOf q)) (zerob (drop (q .len) (q .cells)))
+unfolding soundb rowb
+sound-scan M D q m full fits = rw (le-leb (q .len) cellCount fits) (go (normb M false (cellsOf q)) (sameb q (queueOf (normal M 0 (eventsOf q)))) refl refl)
+  where
+    go : (a b : Bool) → normb M false (cellsOf q) ≡ a → sameb q (queueOf (normal M 0 (eventsOf q))) ≡ b
+        → both b (both (distinctb (eventsOf q)) (nearb D (eventsOf q)))
+        ≡ both (both a (both (distinctb (eventsOf q)) (leb (gapsOf (cellsOf q)) D))) (zerob (drop (q .len) (q .cells)))
+    go true b h s =
+        let e : b ≡ zerob (drop (q .len) (q .cells)) = sym s ∙ ap (λ (cs : List Cell). sameb q (queueOf cs)) (sym (normb-is M (cellsOf q) m h)) ∙ same-tail q full fits in
+        let z : 0 + gapsOf (cellsOf q) ≡ gapsOf (cellsOf q) = omega arith in
+        rw (e, near-end M D 0 false (cellsOf q) h (λ p. omega arith), z) (both-swap (zerob (drop (q .len) (q .cells))) (both (distinctb (eventsOf q)) (leb (gapsOf (cellsOf q)) D)))
+    go false false h s = refl
+    go false true h s =
+        let e : cellsOf q ≡ normal M 0 (eventsOf q) = made-cells q (normal M 0 (eventsOf q)) (same-queue q (queueOf (normal M 0 (eventsOf q))) s) in
+        contrary (ap (normb M false) e ∙ normb-normal M 0 (eventsOf q) m (proper-events 0 (cellsOf q))) h

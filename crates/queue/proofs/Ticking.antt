@@ -1,0 +1,237 @@
+-- The clock and the take on cells: on the normal form they are the clock and the take on the events, over any largest gap M. Assumes nothing.
+use mathlib.Core.Path.{_≡_, refl, sym, ap, _∙_}
+use mathlib.Core.Bool.{Bool, true, false}
+use mathlib.Core.List.{List, [], _∷_, _++_, append-assoc}
+use Prim.Native.Nat.{ℕ, zero, suc, _+_, _-_, _*_, _/_, _≤_, _<_}
+use native.Mathlib.Omega.{arith}
+use native.Mathlib.Nat.{zero-mul, suc-mul}
+use lib.Dec.{leb, ltb, eqb}
+use lib.ListN.{length, getD, take, drop, set, replicate}
+use borrow.Author.Tests.{eq-eqb, ne-eqb, lt-ltb, le-ltb, eqb-true, eqb-false}
+use Rattle.refusal.specs.Small.{pick, both, padded}
+use Rattle.refusal.proofs.Small.{contrary}
+use Rattle.queue.specs.Limits.{cellCount, filler}
+use Rattle.queue.specs.Row.{Event, event, cell, cellsOf, queueOf, eventsOf, eventsFrom, chain, cellsFor, normal}
+use Rattle.queue.specs.Calls.{dueb, earlier, dueId, withoutDue, formed}
+use Rattle.queue.specs.Steps.{firstCell, dueStep, lessHead, nearerStep, restStep, tickStep}
+use Rattle.queue.specs.declared.Cell.{Cell}
+use Rattle.queue.specs.declared.Queue.{Queue}
+use Rattle.queue.proofs.Cells.{made-len, made-row}
+use Rattle.queue.proofs.Normal.{sorted, proper, sorted-events, proper-events, chain-of, one-cell, split}
+use Rattle.queue.proofs.Soundness.{Sound, sound-cells, sound-again}
+
+-- ON ARRAYS: what the stores of a loop come to
+
+-- the first element changed in place
+pub less-set : (xs : List Cell) → let c = getD xs 0 (cell 0 0) in set xs 0 (cell (c .id) (c .gap - 1)) ≡ lessHead xs
+less-set [] = refl
+less-set (c ∷ cs) = refl
+
+pub less-still : (xs : List Cell) → getD xs 0 (cell 0 0) .gap ≡ 0 → xs ≡ lessHead xs
+less-still [] h = refl
+less-still (c ∷ cs) h = let e : c .gap ≡ c .gap - 1 = omega arith in λ i. (record { id = c .id; gap = e i }) ∷ cs
+
+-- the array in which the first j elements have been moved one place down
+abbrev pub down : ℕ → List Cell → List Cell
+down j xs = take j (drop 1 xs) ++ drop j xs
+
+down-move : (j : ℕ) (c : Cell) (ys : List Cell) → j < length ys
+    → set (take j ys ++ drop j (c ∷ ys)) j (getD (c ∷ ys) (suc j) (cell 0 0)) ≡ take (suc j) ys ++ drop (suc j) (c ∷ ys)
+down-move j c [] h = absurd (omega arith)
+down-move zero c (y ∷ ys) h = refl
+down-move (suc j) c (y ∷ ys) h = ap {B = List Cell} (λ l. y ∷ l) (down-move j y ys (omega arith))
+
+pub down-step : (xs : List Cell) (i : ℕ) → 1 ≤ i → i < length xs → set (down (i - 1) xs) (i - 1) (getD xs i (cell 0 0)) ≡ down (i + 1 - 1) xs
+down-step [] i p h = absurd (omega arith)
+down-step (c ∷ ys) zero p h = absurd (omega arith)
+down-step (c ∷ ys) (suc j) p h =
+    let a : suc j - 1 ≡ j = omega arith in
+    let b : suc j + 1 - 1 ≡ suc j = omega arith in
+    rw (a, b) (down-move j c ys (omega arith))
+
+down-last : (c : Cell) (ys : List Cell) (z : Cell) → set (take (length ys) ys ++ drop (length ys) (c ∷ ys)) (length ys) z ≡ ys ++ (z ∷ [])
+down-last c [] z = refl
+down-last c (y ∷ ys) z = ap {B = List Cell} (λ l. y ∷ l) (down-last y ys z)
+
+pub down-end : (xs : List Cell) (n : ℕ) (z : Cell) → length xs ≡ suc n → set (down n xs) n z ≡ drop 1 xs ++ (z ∷ [])
+down-end [] n z h = absurd (omega arith)
+down-end (c ∷ ys) n z h =
+    let e : n ≡ length ys = omega arith in
+    rw e (down-last c ys z)
+
+-- ON CELLS
+
+-- the first cell is due now
+abbrev pub nowb : List Cell → Bool
+nowb [] = false
+nowb (c ∷ cs) = eqb (c .gap) 0
+
+-- the first gap falls by 1, and a filler that reaches 0 goes
+abbrev pub tickCells : List Cell → List Cell
+tickCells [] = []
+tickCells (c ∷ cs) = pick (both (eqb (c .id) filler) (eqb (c .gap) 1)) cs (cell (c .id) (c .gap - 1) ∷ cs)
+
+-- what the total steps are on a queue that is made of cells
+one-zero-more : {A : Type 0} (z : A) (k : ℕ) → replicate k z ++ (z ∷ []) ≡ replicate (suc k) z
+one-zero-more z zero = refl
+one-zero-more {A} z (suc k) = ap {B = List A} (λ l. z ∷ l) (one-zero-more z k)
+
+module _ (q : Queue) where
+  pub made-due : (cs : List Cell) → q ≡ queueOf cs → dueStep q ≡ nowb cs
+  unfolding dueStep
+  made-due [] e = let l : q .len ≡ 0 = made-len q [] e in rw (le-ltb 0 (q .len) (omega arith))
+  made-due (c ∷ cs) e = let l : q .len ≡ suc (length cs) = made-len q (c ∷ cs) e in rw (lt-ltb 0 (q .len) (omega arith), made-row q (c ∷ cs) e)
+
+  pub made-rest : (c : Cell) (cs : List Cell) → q ≡ queueOf (c ∷ cs) → q .len ≤ cellCount → restStep q ≡ queueOf cs
+  unfolding restStep queueOf
+  made-rest c cs e h =
+      let l : q .len ≡ suc (length cs) = made-len q (c ∷ cs) e in
+      let n : eqb (q .len) 0 ≡ false = ne-eqb (q .len) 0 (λ z. omega arith) in
+      let k : suc (cellCount - suc (length cs)) ≡ cellCount - length cs = omega arith in
+      let f : drop 1 (q .cells) ++ (cell 0 0 ∷ []) ≡ padded (cell 0 0) cellCount cs =
+      ap (λ (l : List Cell). drop 1 l ++ (cell 0 0 ∷ [])) (made-row q (c ∷ cs) e)
+      ∙ append-assoc cs (replicate (cellCount - suc (length cs)) (cell 0 0)) (cell 0 0 ∷ [])
+      ∙ ap (λ (l : List Cell). cs ++ l) (one-zero-more (cell 0 0) (cellCount - suc (length cs)) ∙ ap (λ (n : ℕ). replicate n (cell 0 0)) k) in
+      let m : q .len - 1 ≡ length cs = omega arith in
+      rw n (λ i. record { cells = f i; len = m i })
+
+  pub made-nearer : (c : Cell) (cs : List Cell) → q ≡ queueOf (c ∷ cs) → nearerStep q ≡ queueOf (cell (c .id) (c .gap - 1) ∷ cs)
+  unfolding nearerStep queueOf
+  made-nearer c cs e =
+      let f : lessHead (q .cells) ≡ padded (cell 0 0) cellCount (cell (c .id) (c .gap - 1) ∷ cs) = rw (made-row q (c ∷ cs) e) in
+      let l : q .len ≡ suc (length cs) = made-len q (c ∷ cs) e in
+      λ i. record { cells = f i; len = l i }
+
+  pub made-first : (c : Cell) (cs : List Cell) → q ≡ queueOf (c ∷ cs) → firstCell q ≡ c
+  made-first c cs e = rw (made-row q (c ∷ cs) e)
+
+  pub made-tick : (cs : List Cell) → q ≡ queueOf cs → q .len ≤ cellCount → tickStep q ≡ queueOf (tickCells cs)
+  unfolding tickStep
+  made-tick [] e h = let l : q .len ≡ 0 = made-len q [] e in rw (eq-eqb (q .len) 0 l) e
+  made-tick (c ∷ cs) e h =
+      let l : q .len ≡ suc (length cs) = made-len q (c ∷ cs) e in
+      let n : eqb (q .len) 0 ≡ false = ne-eqb (q .len) 0 (λ z. omega arith) in
+      rw (n, made-first c cs e) (go (both (eqb (c .id) filler) (eqb (c .gap) 1)))
+    where
+      go : (b : Bool) → pick b (restStep q) (nearerStep q) ≡ queueOf (pick b cs (cell (c .id) (c .gap - 1) ∷ cs))
+      go true = made-rest c cs e h
+      go false = made-nearer c cs e
+
+-- ON THE NORMAL FORM
+
+-- the clock takes 1 off a gap
+pub tick-chain : (M k id r : ℕ) (rest : List Cell) → eqb id filler ≡ false → 1 ≤ M → 1 ≤ r → r ≤ M
+    → tickCells (chain M k id r ++ rest) ≡ cellsFor M (k * M + r - 1) id ++ rest
+tick-chain M zero id r rest n m p h =
+    let e : zero * M + r - 1 ≡ r - 1 = omega (arith, zero-mul M) in
+    rw (n, e, one-cell M id (r - 1) m (omega arith))
+tick-chain M (suc k) id r rest n m p h = go (eqb r 1) refl
+  where
+    go : (b : Bool) → eqb r 1 ≡ b → pick b (chain M k id M ++ rest) (cell filler (r - 1) ∷ (chain M k id M ++ rest)) ≡ cellsFor M (suc k * M + r - 1) id ++ rest
+    go true q =
+        let a : r ≡ 1 = eqb-true r 1 q in
+        let e : suc k * M + r - 1 ≡ k * M + M = omega (arith, suc-mul k M) in
+        rw (e, chain-of M k id M m (omega arith))
+    go false q =
+        let a : r ≡ 1 → ⊥ = eqb-false r 1 q in
+        let b : 1 ≤ r - 1 = omega arith in
+        let e : suc k * M + r - 1 ≡ suc k * M + (r - 1) = omega arith in
+        rw (e, chain-of M (suc k) id (r - 1) b (omega arith))
+
+pub tick-cells : (M g id : ℕ) (rest : List Cell) → eqb id filler ≡ false → 1 ≤ M → 1 ≤ g → tickCells (cellsFor M g id ++ rest) ≡ cellsFor M (g - 1) id ++ rest
+tick-cells M g id rest n m p =
+    let k = (g - 1) / M in
+    let r = g - k * M in
+    let s : (1 ≤ r) × (r ≤ M) × (g ≡ k * M + r) = split M g m p in
+    let a : cellsFor M g id ≡ chain M k id r = ap (λ (x : ℕ). cellsFor M x id) (s .2) ∙ chain-of M k id r (s .0) (s .1) in
+    let b : tickCells (chain M k id r ++ rest) ≡ cellsFor M (k * M + r - 1) id ++ rest = tick-chain M k id r rest n m (s .0) (s .1) in
+    let e : k * M + r - 1 ≡ g - 1 = omega arith in
+    rw a (b ∙ ap (λ (x : ℕ). cellsFor M x id ++ rest) e)
+
+-- events that all come 1 earlier, counted from 1 earlier, have the same cells
+pub normal-earlier : (M t : ℕ) (es : List Event) → 1 ≤ t → sorted t es → normal M (t - 1) (earlier es) ≡ normal M t es
+normal-earlier M t [] h s = refl
+normal-earlier M t (e ∷ es) h s =
+    let d : e .at - 1 - (t - 1) ≡ e .at - t = omega arith in
+    rw (d, normal-earlier M (e .at) es (omega (arith, s .0)) (s .1))
+
+-- THE CLOCK'S LAW
+pub tick-normal : (M : ℕ) (es : List Event) → 1 ≤ M → sorted 0 es → proper es → dueb es ≡ false → tickCells (normal M 0 es) ≡ normal M 0 (earlier es)
+tick-normal M [] m s p d = refl
+tick-normal M (e ∷ es) m s p d =
+    let h : 1 ≤ e .at = go (eqb (e .at) 0) refl d in
+    let a : e .at - 0 ≡ e .at = omega arith in
+    let b : e .at - 1 - 0 ≡ e .at - 1 = omega arith in
+    rw (a, b, normal-earlier M (e .at) es h (s .1)) (tick-cells M (e .at) (e .id) (normal M (e .at) es) (p .0) m h)
+  where
+    go : (b : Bool) → eqb (e .at) 0 ≡ b → pick b true (dueb es) ≡ false → 1 ≤ e .at
+    go true q f = let z : _≡_ {A = ℕ} 0 1 = cc in omega arith
+    go false q f = let n : e .at ≡ 0 → ⊥ = eqb-false (e .at) 0 q in omega arith
+
+-- an event is due where the first cell has gap 0
+pub due-later : (t : ℕ) (es : List Event) → 1 ≤ t → sorted t es → dueb es ≡ false
+due-later t [] h s = refl
+due-later t (e ∷ es) h s =
+    let a : eqb (e .at) 0 ≡ false = ne-eqb (e .at) 0 (λ q. omega (arith, s .0)) in
+    rw a (due-later (e .at) es (omega (arith, s .0)) (s .1))
+
+pub now-chain : (M k id r : ℕ) (rest : List Cell) → nowb (chain M k id r ++ rest) ≡ eqb r 0
+now-chain M zero id r rest = refl
+now-chain M (suc k) id r rest = refl
+
+pub due-now : (M : ℕ) (es : List Event) → 1 ≤ M → sorted 0 es → dueb es ≡ nowb (normal M 0 es)
+due-now M [] m s = refl
+due-now M (e ∷ es) m s = go (eqb (e .at) 0) refl
+  where
+    go : (b : Bool) → eqb (e .at) 0 ≡ b → dueb (e ∷ es) ≡ nowb (normal M 0 (e ∷ es))
+    go true q =
+        let z : e .at - 0 ≡ 0 = omega (arith, eqb-true (e .at) 0 q) in
+        rw (q, z, one-cell M (e .id) 0 m (omega arith))
+    go false q =
+        let h : 1 ≤ e .at = let n : e .at ≡ 0 → ⊥ = eqb-false (e .at) 0 q in omega arith in
+        let a : e .at - 0 ≡ e .at = omega arith in
+        let k = (e .at - 1) / M in
+        let r = e .at - k * M in
+        let w : (1 ≤ r) × (r ≤ M) × (e .at ≡ k * M + r) = split M (e .at) m h in
+        let c : cellsFor M (e .at) (e .id) ≡ chain M k (e .id) r = ap (λ (x : ℕ). cellsFor M x (e .id)) (w .2) ∙ chain-of M k (e .id) r (w .0) (w .1) in
+        let f : eqb r 0 ≡ false = ne-eqb r 0 (λ x. omega arith) in
+        rw (q, a, c, now-chain M k (e .id) r (normal M (e .at) es), f) (due-later (e .at) es h (s .1))
+
+-- where an event is due it stands first
+pub due-first : (es : List Event) → sorted 0 es → dueb es ≡ true → es ≡ event (dueId es) 0 ∷ withoutDue es
+due-first [] s d = contrary d refl
+due-first (e ∷ es) s d = go (eqb (e .at) 0) refl d
+  where
+    go : (b : Bool) → eqb (e .at) 0 ≡ b → pick b true (dueb es) ≡ true → e ∷ es ≡ event (pick b (e .id) (dueId es)) 0 ∷ pick b es (e ∷ withoutDue es)
+    go true p f = let z : e .at ≡ 0 = eqb-true (e .at) 0 p in λ i. (record { id = e .id; at = z i }) ∷ es
+    go false p f =
+        let n : e .at ≡ 0 → ⊥ = eqb-false (e .at) 0 p in
+        contrary f (due-later (e .at) es (omega arith) (s .1))
+
+-- THE TAKE'S LAW: its cell goes, and no other changes
+pub take-normal : (M : ℕ) (es : List Event) → 1 ≤ M → sorted 0 es → dueb es ≡ true → normal M 0 es ≡ cell (dueId es) 0 ∷ normal M 0 (withoutDue es)
+take-normal M es m s d =
+    ap (normal M 0) (due-first es s d) ∙ ap (λ (l : List Cell). l ++ normal M 0 (withoutDue es)) (one-cell M (dueId es) 0 m (omega arith))
+
+-- ON A SOUND QUEUE the steps are the calls' outcomes
+module _ (M D : ℕ) (q : Queue) (m : 1 ≤ M) (s : Sound M D q) where
+  abbrev es : List Event
+  es = eventsOf q
+
+  in-order : sorted 0 es
+  in-order = sorted-events 0 (cellsOf q)
+
+  pub sound-due : dueStep q ≡ dueb (eventsOf q)
+  sound-due = made-due q (normal M 0 es) (s .form) ∙ sym (due-now M es m in-order)
+
+  pub sound-tick : dueb (eventsOf q) ≡ false → tickStep q ≡ formed M (earlier (eventsOf q))
+  sound-tick d = made-tick q (normal M 0 es) (s .form) (s .short) ∙ ap queueOf (tick-normal M es m in-order (proper-events 0 (cellsOf q)) d)
+
+  made-take : dueb es ≡ true → q ≡ queueOf (cell (dueId es) 0 ∷ normal M 0 (withoutDue es))
+  made-take d = s .form ∙ ap queueOf (take-normal M es m in-order d)
+
+  pub sound-rest : dueb (eventsOf q) ≡ true → restStep q ≡ formed M (withoutDue (eventsOf q))
+  sound-rest d = made-rest q (cell (dueId es) 0) (normal M 0 (withoutDue es)) (made-take d) (s .short)
+
+  pub sound-first : dueb (eventsOf q) ≡ true → firstCell q .id ≡ dueId (eventsOf q)
+  sound-first d = ap (λ (c : Cell). c .id) (made-first q (cell (dueId es) 0) (normal M 0 (withoutDue es)) (made-take d))

@@ -1,0 +1,82 @@
+-- `queue::next_event` meets its contract: behind the fillers that are passed, the next event is still the one that is asked for.
+use mathlib.Core.Path.{_≡_, refl, _∙_}
+use mathlib.Core.List.{[], _∷_}
+use Prim.Native.Nat.{_+_, _-_, _*_, _≤_}
+use native.Mathlib.Omega.{arith}
+use borrow.Author.Tests.{eq-eqb, ne-eqb}
+use lib.ListN.{drop, getD, length-map}
+use Rattle.queue.specs.Limits.{maxGap}
+use Rattle.queue.specs.Row.{cell, cellsOf}
+use Rattle.queue.specs.Moves.{nextOf}
+use Rattle.queue.proofs.Cells.{cells-step, cells-end}
+use Rattle.queue.proofs.next_event.Statement.{statement}
+use Rattle.queue.proofs.next_event.Tie as tie
+
+abbrev Inv-loop : tie.InvT-loop
+Inv-loop from at q n t₀ i₀ t i =
+    (i ≤ n) × (t ≤ at + maxGap * i) × (nextOf at from (drop from (cellsOf q)) ≡ nextOf t i (drop i (cellsOf q)))
+
+abbrev μ-loop : tie.MeasureT-loop
+μ-loop from at q n t₀ i₀ t i = n - i
+
+-- the cell that stands next, and none at the end
+step : (c : tie.In-loop Inv-loop μ-loop) → let q = c .before .before .args .t1 in let i = c .before .loop .i in
+    drop i (cellsOf q) ≡ getD (q .cells) i (cell 0 0) ∷ drop (i + 1) (cellsOf q)
+step c =
+    let s = c .before .before in
+    cells-step (s .args .t1) (rw length-map at (s .good .0 .1 .1 .0 .1 .0 .1)) (s .pre .0) (c .before .loop .i) (c .loop-test .taken)
+
+end : (c : tie.After-loop Inv-loop μ-loop) → drop (c .before .loop .i) (cellsOf (c .before .before .args .t1)) ≡ []
+end c =
+    let s = c .before .before in
+    cells-end (s .args .t1) (rw length-map at (s .good .0 .1 .1 .0 .1 .0 .1)) (s .pre .0) (c .before .loop .i) (c .loop-test .left)
+
+loop-holds : tie.Need-loop-holds Inv-loop μ-loop
+loop-holds c = (omega arith, omega arith, refl)
+
+mul-c : tie.Need-mul-c Inv-loop μ-loop
+mul-c c = omega arith
+
+element-copy-out-c : tie.Need-element-copy-out-c Inv-loop μ-loop
+element-copy-out-c c = omega arith
+
+cast-t : tie.Need-cast-t Inv-loop μ-loop
+cast-t c = omega arith
+
+add-t : tie.Need-add-t Inv-loop μ-loop
+add-t c = omega arith
+
+add-i : tie.Need-add-i Inv-loop μ-loop
+add-i c = omega arith
+
+returns : tie.Need-returns Inv-loop μ-loop
+returns c = let b = c .before .before .before .before in rw (b .before .loop .inv .2, step b, ne-eqb _ _ (c .if1 .taken))
+
+loop-less : tie.Need-loop-less Inv-loop μ-loop
+loop-less c = omega arith
+
+loop-again : tie.Need-loop-again Inv-loop μ-loop
+loop-again c =
+    let b = c .before .before .before .before in
+    let l = b .before .loop in
+    (omega arith, omega arith, l .inv .2 ∙ rw (step b, eq-eqb _ _ (c .if1 .left)))
+
+returns-2 : tie.Need-returns-2 Inv-loop μ-loop
+returns-2 c = rw (c .before .loop .inv .2, end c)
+
+pub next-event-spec : {M : Type 1} → statement M
+next-event-spec =
+    tie.close
+    (tie.spec
+    Inv-loop
+    μ-loop
+    loop-holds
+    mul-c
+    element-copy-out-c
+    cast-t
+    add-t
+    add-i
+    returns
+    loop-less
+    loop-again
+    returns-2)

@@ -1,0 +1,7 @@
+pub mod Limits
+pub mod Row
+pub mod Sound
+pub mod Calls
+pub mod Lent
+pub mod Steps
+pub mod Moves

@@ -1,0 +1,44 @@
+-- Laws of the small definitions. Assumes nothing.
+use mathlib.Core.Path.{_≡_, refl, _∙_, ap, sym}
+use mathlib.Core.Bool.{Bool, true, false, not}
+use mathlib.Core.List.{List, [], _∷_, _++_, append-assoc}
+use Prim.Native.Nat.{ℕ, suc, _-_, _<_}
+use native.Mathlib.Omega.{arith}
+use lib.ListN.{length, take, set, replicate, length-append}
+use lib.Seq.{set-append-seam, take-append-seam}
+use Rattle.refusal.specs.Small.{pick, both, padded}
+
+pub both-left : (a b : Bool) → both a b ≡ true → a ≡ true
+both-left true b e = refl
+both-left false b e = e
+
+pub both-right : (a b : Bool) → both a b ≡ true → b ≡ true
+both-right true b e = e
+both-right false b e = cc
+
+pub both-true : (b : Bool) → both b true ≡ b
+both-true true = refl
+both-true false = refl
+
+pub both-false : (b : Bool) → both b false ≡ false
+both-false true = refl
+both-false false = refl
+
+pub both-swap : (a b : Bool) → both a b ≡ both b a
+both-swap true b = sym (both-true b)
+both-swap false b = sym (both-false b)
+
+-- a test that is both true and false
+pub contrary {ℓ} : {A : Type ℓ} {b : Bool} → b ≡ true → b ≡ false → A
+contrary p q = let z : _≡_ {A = ℕ} 0 1 = cc in absurd (omega arith)
+
+module _ {ℓ} {A : Type ℓ} (z : A) (n : ℕ) (xs : List A) where
+  -- one element more, stored behind the last
+  pub padded-push : (x : A) → length xs < n → set (padded z n xs) (length xs) x ≡ padded z n (xs ++ (x ∷ []))
+  padded-push x h =
+      let e : n - length xs ≡ suc (n - suc (length xs)) = omega arith in
+      let f : n - length (xs ++ (x ∷ [])) ≡ n - suc (length xs) = simp length-append (omega arith) in
+      rw (e, f, append-assoc) (set-append-seam xs z (replicate (n - suc (length xs)) z) x)
+
+  pub take-padded : take (length xs) (padded z n xs) ≡ xs
+  take-padded = take-append-seam xs _

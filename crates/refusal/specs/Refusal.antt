@@ -1,0 +1,31 @@
+-- A call's tests in the document's order: the first that holds gives its refusal.
+use mathlib.Core.Bool.{Bool}
+use mathlib.Core.List.{List, [], _∷_}
+use Prim.Native.Nat.{ℕ}
+use Rattle.refusal.specs.declared.Refusal.{Refusal}
+use Rattle.refusal.specs.Small.{pick}
+
+abbrev pub refused : ℕ → ℕ → Refusal
+refused number place = record { number = number; place = place }
+
+-- not refused
+abbrev pub none : Refusal
+none = refused 0 0
+
+-- a refusal, and the test that gives it
+pub record Check : Type 0 where
+  pub refusal : Refusal
+  pub holds : Bool
+
+-- a refusal that names a place
+abbrev pub checkAt : ℕ → ℕ → Bool → Check
+checkAt number place holds = record { refusal = refused number place; holds = holds }
+
+-- a refusal that names none
+abbrev pub check : ℕ → Bool → Check
+check number holds = checkAt number 0 holds
+
+-- the refusal of the first test that holds, or none
+abbrev pub firstOf : List Check → Refusal
+firstOf [] = none
+firstOf (c ∷ cs) = pick (c .holds) (c .refusal) (firstOf cs)

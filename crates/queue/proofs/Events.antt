@@ -1,19 +1,24 @@
 -- Laws of what the calls do to a list of events: what stays in order, proper, near and distinct, and how many cells it takes. Assumes nothing.
-use mathlib.Core.Path.{_≡_, refl, sym, ap, _∙_}
+use mathlib.Core.Path.{_≡_, refl, sym, ap}
 use mathlib.Core.Bool.{Bool, true, false, not}
-use mathlib.Core.List.{List, [], _∷_, _++_}
-use Prim.Native.Nat.{ℕ, zero, suc, _+_, _-_, _*_, _/_, _≤_, _<_}
+use mathlib.Core.List.{List, [], _∷_}
+use Prim.Native.Nat.{ℕ, suc, _+_, _-_, _/_, _≤_, _<_}
 use native.Mathlib.Omega.{arith}
 use lib.Dec.{leb, eqb}
 use lib.ListN.{length, length-append}
-use borrow.Author.Tests.{eq-eqb, ne-eqb, le-leb, lt-leb, leb-true, leb-false, eqb-true, eqb-false}
-use Rattle.refusal.specs.Small.{pick, both}
-use Rattle.refusal.proofs.Small.{both-left, both-right}
+use borrow.Author.Tests.{eq-eqb, ne-eqb, le-leb, leb-true, leb-false, eqb-true, eqb-false, not-true}
+use Rattle.refusal.specs.Small.{pick}
+use Rattle.refusal.proofs.Small.{both-left, both-right, neither-left, neither-right, contrary}
 use Rattle.queue.specs.Limits.{filler}
 use Rattle.queue.specs.Row.{Event, event, normal}
 use Rattle.queue.specs.Sound.{hasb, distinctb, nearb}
-use Rattle.queue.specs.Calls.{withEvent, withoutEvent, earlier, later, distanceOf}
-use Rattle.queue.proofs.Normal.{sorted, proper, sorted-from, cells-count, joined-fewer}
+use Rattle.queue.specs.Calls.{withEvent, withoutEvent, distanceOf, dueb, earlier, dueId, withoutDue, later, farb}
+use Rattle.queue.proofs.Normal.{sorted, proper, sorted-from, cells-count, fillers-grow, joined-fewer}
+
+-- no event has the id of a filler
+pub no-filler : (es : List Event) → proper es → hasb filler es ≡ false
+no-filler [] p = refl
+no-filler (e ∷ es) p = rw (p .0) (no-filler es (p .1))
 
 -- ONE EVENT MORE
 pub with-length : (x : Event) (es : List Event) → length (withEvent x es) ≡ suc (length es)
@@ -68,6 +73,29 @@ with-distinct x (e ∷ es) h d = go (leb (e .at) (x .at)) (eqb (e .id) (x .id)) 
         rw (with-has (e .id) x es n, both-left (not (hasb (e .id) es)) _ d) (r f (both-right (not (hasb (e .id) es)) _ d))
     go false false q f r = rw (q, f) d
 
+pub with-distance : (id : ℕ) (x : Event) (es : List Event) → eqb (x .id) id ≡ false → distanceOf id (withEvent x es) ≡ distanceOf id es
+with-distance id x [] h = rw h
+with-distance id x (e ∷ es) h = go (leb (e .at) (x .at)) (with-distance id x es h)
+  where
+    go : (b : Bool) → distanceOf id (withEvent x es) ≡ distanceOf id es
+        → distanceOf id (pick b (e ∷ withEvent x es) (x ∷ e ∷ es)) ≡ pick (eqb (e .id) id) (e .at) (distanceOf id es)
+    go true r = ap (pick (eqb (e .id) id) (e .at)) r
+    go false r = rw h
+
+-- the newcomer is there, at its own distance
+pub with-new : (x : Event) (es : List Event) → hasb (x .id) es ≡ false
+    → (hasb (x .id) (withEvent x es) ≡ true) × (distanceOf (x .id) (withEvent x es) ≡ x .at)
+with-new x [] h = let s : eqb (x .id) (x .id) ≡ true = eq-eqb (x .id) (x .id) refl in (rw s, rw s)
+with-new x (e ∷ es) h = go (leb (e .at) (x .at)) (with-new x es (neither-right (eqb (e .id) (x .id)) _ h))
+  where
+    s : eqb (x .id) (x .id) ≡ true
+    s = eq-eqb (x .id) (x .id) refl
+
+    go : (b : Bool) → (hasb (x .id) (withEvent x es) ≡ true) × (distanceOf (x .id) (withEvent x es) ≡ x .at)
+        → (hasb (x .id) (pick b (e ∷ withEvent x es) (x ∷ e ∷ es)) ≡ true) × (distanceOf (x .id) (pick b (e ∷ withEvent x es) (x ∷ e ∷ es)) ≡ x .at)
+    go true r = let n : eqb (e .id) (x .id) ≡ false = neither-left (eqb (e .id) (x .id)) _ h in (rw n (r .0), rw n (r .1))
+    go false r = (rw s, rw s)
+
 -- ONE EVENT LESS
 
 -- counted from an earlier time, no more cells are needed than the way there takes
@@ -103,6 +131,65 @@ without-length id (e ∷ es) = go (eqb (e .id) id) (without-length id es)
     go true r = omega arith
     go false r = omega arith
 
+pub without-proper : (id : ℕ) (es : List Event) → proper es → proper (withoutEvent id es)
+without-proper id [] p = tt
+without-proper id (e ∷ es) p = go (eqb (e .id) id) (without-proper id es (p .1))
+  where
+    go : (b : Bool) → proper (withoutEvent id es) → proper (pick b es (e ∷ withoutEvent id es))
+    go true r = p .1
+    go false r = (p .0, r)
+
+pub without-near : (D id : ℕ) (es : List Event) → nearb D es ≡ true → nearb D (withoutEvent id es) ≡ true
+without-near D id [] h = refl
+without-near D id (e ∷ es) h = go (eqb (e .id) id) (without-near D id es (both-right (leb (e .at) D) _ h))
+  where
+    go : (b : Bool) → nearb D (withoutEvent id es) ≡ true → nearb D (pick b es (e ∷ withoutEvent id es)) ≡ true
+    go true r = both-right (leb (e .at) D) _ h
+    go false r = rw (both-left (leb (e .at) D) _ h) r
+
+-- the others are there as before
+pub without-has : (id j : ℕ) (es : List Event) → eqb id j ≡ false → hasb j (withoutEvent id es) ≡ hasb j es
+without-has id j [] n = refl
+without-has id j (e ∷ es) n = go (eqb (e .id) id) refl (without-has id j es n)
+  where
+    go : (b : Bool) → eqb (e .id) id ≡ b → hasb j (withoutEvent id es) ≡ hasb j es → hasb j (pick b es (e ∷ withoutEvent id es)) ≡ pick (eqb (e .id) j) true (hasb j es)
+    go true q r = rw (eqb-true (e .id) id q, n)
+    go false q r = ap (pick (eqb (e .id) j) true) r
+
+pub without-absent : (id j : ℕ) (es : List Event) → hasb j es ≡ false → hasb j (withoutEvent id es) ≡ false
+without-absent id j [] h = refl
+without-absent id j (e ∷ es) h = go (eqb (e .id) id) (without-absent id j es (neither-right (eqb (e .id) j) _ h))
+  where
+    go : (b : Bool) → hasb j (withoutEvent id es) ≡ false → hasb j (pick b es (e ∷ withoutEvent id es)) ≡ false
+    go true r = neither-right (eqb (e .id) j) _ h
+    go false r = rw (neither-left (eqb (e .id) j) _ h) r
+
+pub without-distinct : (id : ℕ) (es : List Event) → distinctb es ≡ true → distinctb (withoutEvent id es) ≡ true
+without-distinct id [] d = refl
+without-distinct id (e ∷ es) d = go (eqb (e .id) id) (without-distinct id es (both-right (not (hasb (e .id) es)) _ d))
+  where
+    go : (b : Bool) → distinctb (withoutEvent id es) ≡ true → distinctb (pick b es (e ∷ withoutEvent id es)) ≡ true
+    go true r = both-right (not (hasb (e .id) es)) _ d
+    go false r = rw (without-absent id (e .id) es (not-true _ (both-left (not (hasb (e .id) es)) _ d))) r
+
+-- where ids differ, the event is gone
+pub without-gone : (id : ℕ) (es : List Event) → distinctb es ≡ true → hasb id (withoutEvent id es) ≡ false
+without-gone id [] d = refl
+without-gone id (e ∷ es) d = go (eqb (e .id) id) refl (without-gone id es (both-right (not (hasb (e .id) es)) _ d))
+  where
+    go : (b : Bool) → eqb (e .id) id ≡ b → hasb id (withoutEvent id es) ≡ false → hasb id (pick b es (e ∷ withoutEvent id es)) ≡ false
+    go true q r = rw (← eqb-true (e .id) id q) (not-true _ (both-left (not (hasb (e .id) es)) _ d))
+    go false q r = rw q r
+
+pub without-distance : (id j : ℕ) (es : List Event) → eqb id j ≡ false → distanceOf j (withoutEvent id es) ≡ distanceOf j es
+without-distance id j [] n = refl
+without-distance id j (e ∷ es) n = go (eqb (e .id) id) refl (without-distance id j es n)
+  where
+    go : (b : Bool) → eqb (e .id) id ≡ b → distanceOf j (withoutEvent id es) ≡ distanceOf j es
+        → distanceOf j (pick b es (e ∷ withoutEvent id es)) ≡ pick (eqb (e .id) j) (e .at) (distanceOf j es)
+    go true q r = rw (eqb-true (e .id) id q, n)
+    go false q r = ap (pick (eqb (e .id) j) (e .at)) r
+
 -- EACH 1 EARLIER
 
 pub earlier-sorted : (s t : ℕ) (es : List Event) → s ≤ t - 1 → sorted t es → sorted s (earlier es)
@@ -127,6 +214,34 @@ pub earlier-distinct : (es : List Event) → distinctb (earlier es) ≡ distinct
 earlier-distinct [] = refl
 earlier-distinct (e ∷ es) = rw (earlier-has (e .id) es, earlier-distinct es)
 
+-- events that all come 1 earlier, counted from 1 earlier, have the same cells
+pub normal-earlier : (M t : ℕ) (es : List Event) → 1 ≤ t → sorted t es → normal M (t - 1) (earlier es) ≡ normal M t es
+normal-earlier M t [] h s = refl
+normal-earlier M t (e ∷ es) h s =
+    let d : e .at - 1 - (t - 1) ≡ e .at - t = omega arith in
+    rw (d, normal-earlier M (e .at) es (omega (arith, s .0)) (s .1))
+
+-- an event that is not due is at least 1 away
+pub not-due : (e : Event) (es : List Event) → dueb (e ∷ es) ≡ false → 1 ≤ e .at
+not-due e es d = let n : e .at ≡ 0 → ⊥ = eqb-false (e .at) 0 (neither-left (eqb (e .at) 0) _ d) in omega arith
+
+-- and no more are needed from now on
+pub earlier-fewer : (M : ℕ) (es : List Event) → 1 ≤ M → sorted 0 es → dueb es ≡ false → length (normal M 0 (earlier es)) ≤ length (normal M 0 es)
+earlier-fewer M [] m s d = omega arith
+earlier-fewer M (e ∷ es) m s d =
+    let h : 1 ≤ e .at = not-due e es d in
+    let f : (e .at - 1 - 0 - 1) / M ≤ (e .at - 0 - 1) / M = fillers-grow M (e .at - 1 - 0 - 1) (e .at - 0 - 1) m (omega arith) in
+    rw (normal-earlier M (e .at) es h (s .1), length-append, cells-count M (e .at - 1 - 0) (e .id), length-append, cells-count M (e .at - 0) (e .id)) (omega arith)
+
+pub earlier-distance : (j : ℕ) (es : List Event) → dueb es ≡ false → hasb j es ≡ true → distanceOf j (earlier es) + 1 ≡ distanceOf j es
+earlier-distance j [] d h = contrary h refl
+earlier-distance j (e ∷ es) d h = go (eqb (e .id) j) h (earlier-distance j es (neither-right (eqb (e .at) 0) _ d))
+  where
+    go : (b : Bool) → pick b true (hasb j es) ≡ true → (hasb j es ≡ true → distanceOf j (earlier es) + 1 ≡ distanceOf j es)
+        → pick b (e .at - 1) (distanceOf j (earlier es)) + 1 ≡ pick b (e .at) (distanceOf j es)
+    go true k r = omega (arith, not-due e es d)
+    go false k r = r k
+
 -- EACH 1 LATER
 
 pub later-sorted : (t : ℕ) (es : List Event) → sorted t es → sorted (t + 1) (later es)
@@ -136,3 +251,51 @@ later-sorted t (e ∷ es) s = (omega (arith, s .0), later-sorted (e .at) es (s .
 pub later-length : (es : List Event) → length (later es) ≡ length es
 later-length [] = refl
 later-length (e ∷ es) = ap suc (later-length es)
+
+pub later-proper : (es : List Event) → proper es → proper (later es)
+later-proper [] p = tt
+later-proper (e ∷ es) p = (p .0, later-proper es (p .1))
+
+-- where none is at the longest distance
+pub later-near : (D : ℕ) (es : List Event) → nearb D es ≡ true → farb D es ≡ false → nearb D (later es) ≡ true
+later-near D [] h f = refl
+later-near D (e ∷ es) h f =
+    let a : e .at ≤ D = leb-true (e .at) D (both-left _ _ h) in
+    let n : e .at ≡ D → ⊥ = eqb-false (e .at) D (neither-left (eqb (e .at) D) _ f) in
+    rw (le-leb (e .at + 1) D (omega arith)) (later-near D es (both-right (leb (e .at) D) _ h) (neither-right (eqb (e .at) D) _ f))
+
+pub later-has : (id : ℕ) (es : List Event) → hasb id (later es) ≡ hasb id es
+later-has id [] = refl
+later-has id (e ∷ es) = ap (pick (eqb (e .id) id) true) (later-has id es)
+
+pub later-distinct : (es : List Event) → distinctb (later es) ≡ distinctb es
+later-distinct [] = refl
+later-distinct (e ∷ es) = rw (later-has (e .id) es, later-distinct es)
+
+pub later-distance : (j : ℕ) (es : List Event) → hasb j es ≡ true → distanceOf j (later es) ≡ distanceOf j es + 1
+later-distance j [] h = contrary h refl
+later-distance j (e ∷ es) h = go (eqb (e .id) j) h (later-distance j es)
+  where
+    go : (b : Bool) → pick b true (hasb j es) ≡ true → (hasb j es ≡ true → distanceOf j (later es) ≡ distanceOf j es + 1)
+        → pick b (e .at + 1) (distanceOf j (later es)) ≡ pick b (e .at) (distanceOf j es) + 1
+    go true k r = refl
+    go false k r = r k
+
+-- THE FIRST THAT IS DUE
+
+pub due-later : (t : ℕ) (es : List Event) → 1 ≤ t → sorted t es → dueb es ≡ false
+due-later t [] h s = refl
+due-later t (e ∷ es) h s =
+    let a : eqb (e .at) 0 ≡ false = ne-eqb (e .at) 0 (λ q. omega (arith, s .0)) in
+    rw a (due-later (e .at) es (omega (arith, s .0)) (s .1))
+
+-- where an event is due it stands first
+pub due-first : (es : List Event) → sorted 0 es → dueb es ≡ true → es ≡ event (dueId es) 0 ∷ withoutDue es
+due-first [] s d = contrary d refl
+due-first (e ∷ es) s d = go (eqb (e .at) 0) refl d
+  where
+    go : (b : Bool) → eqb (e .at) 0 ≡ b → pick b true (dueb es) ≡ true → e ∷ es ≡ event (pick b (e .id) (dueId es)) 0 ∷ pick b es (e ∷ withoutDue es)
+    go true p f = let z : e .at ≡ 0 = eqb-true (e .at) 0 p in λ i. (record { id = e .id; at = z i }) ∷ es
+    go false p f =
+        let n : e .at ≡ 0 → ⊥ = eqb-false (e .at) 0 p in
+        contrary f (due-later (e .at) es (omega arith) (s .1))

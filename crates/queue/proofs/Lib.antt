@@ -10,3 +10,10 @@ pub mod Ticking
 pub mod Placing
 pub mod Pushing
 pub mod Same
+pub mod OneOutcome
+pub mod Refusals
+pub mod Unchanged
+pub mod Keeps
+pub mod DueTimes
+pub mod Fewest
+pub mod Points

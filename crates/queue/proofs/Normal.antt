@@ -4,7 +4,7 @@ use mathlib.Core.Bool.{Bool, true, false}
 use mathlib.Core.List.{List, [], _∷_, _++_, append-assoc, append-nil}
 use Prim.Native.Nat.{ℕ, zero, suc, _+_, _-_, _*_, _/_, _≤_, _<_}
 use native.Mathlib.Omega.{arith}
-use native.Mathlib.Nat.{div-eq-of-lt, div-mul-le-self, lt-div-mul-add, zero-mul, suc-mul, add-mul, div-lt-iff-lt-mul}
+use native.Mathlib.Nat.{div-eq-of-lt, div-mul-le-self, lt-div-mul-add, zero-mul, suc-mul, add-mul, div-lt-iff-lt-mul, le-div-iff-mul-le}
 use lib.Dec.{leb, eqb}
 use lib.Arith.{digits-div}
 use lib.ListN.{length, length-append}
@@ -76,6 +76,10 @@ chain-length M (suc k) id r = ap suc (chain-length M k id M)
 pub cells-count : (M g id : ℕ) → length (cellsFor M g id) ≡ suc ((g - 1) / M)
 unfolding cellsFor
 cells-count M g id = chain-length M ((g - 1) / M) id (g - (g - 1) / M * M)
+
+-- a longer gap takes no fewer
+pub fillers-grow : (M a b : ℕ) → 1 ≤ M → a ≤ b → a / M ≤ b / M
+fillers-grow M a b m h = let l : a / M * M ≤ a = div-mul-le-self a M in le-div-iff-mul-le {k = M} {x = a / M} {y = b} m .1 (omega arith)
 
 -- two gaps together need no more cells than each by itself
 pub joined-fewer : (M a b : ℕ) → 1 ≤ M → (a + b - 1) / M ≤ suc ((a - 1) / M + (b - 1) / M)

@@ -21,6 +21,7 @@ use Rattle.queue.proofs.Cells.{cells-length, made-cells}
 use Rattle.queue.proofs.Normal.{proper, proper-events}
 use Rattle.queue.proofs.Form.{normb-is, normb-normal}
 use Rattle.queue.proofs.Soundness.{same-queue}
+use Rattle.queue.proofs.Events.{no-filler}
 
 pub above-zero : (n : ℕ) → leb 1 n ≡ not (eqb n 0)
 above-zero n = go (eqb n 0) refl
@@ -54,11 +55,6 @@ has-append id (e ∷ es) fs = go (eqb (e .id) id) (has-append id es fs)
     go : (b : Bool) → hasb id (es ++ fs) ≡ pick (hasb id es) true (hasb id fs) → pick b true (hasb id (es ++ fs)) ≡ pick (pick b true (hasb id es)) true (hasb id fs)
     go true h = refl
     go false h = h
-
--- no filler is among events that are none
-pub filler-not : (es : List Event) → proper es → hasb filler es ≡ false
-filler-not [] p = refl
-filler-not (e ∷ es) p = rw (p .0) (filler-not es (p .1))
 
 -- an event is among those that it stands in
 pub has-here : (id : ℕ) (es : List Event) (x : Event) (fs : List Event) → eqb (x .id) id ≡ true → hasb id (es ++ (x ∷ fs)) ≡ true
@@ -124,7 +120,7 @@ marked-more es seen id at p full small m k h = rw (has-append k es (eventAt id a
     go : (u b : Bool) → eqb k id ≡ u → eqb id filler ≡ b → getD (set seen id (not b)) k false ≡ pick (hasb k es) true (hasb k (pick b [] (event id at ∷ [])))
     go true true q r =
         let a : k ≡ id = eqb-true k id q in
-        let f : hasb id es ≡ false = rw (eqb-true id filler r) (filler-not es p) in
+        let f : hasb id es ≡ false = rw (eqb-true id filler r) (no-filler es p) in
         rw (a, f) (getD-set-same seen id false false (omega arith))
     go true false q r =
         let a : k ≡ id = eqb-true k id q in
@@ -153,7 +149,7 @@ module _ (past : List Cell) (seen : List Bool) (at : ℕ) (s : Scanned past seen
     where
       go : (b : Bool) → eqb (c .id) filler ≡ b → hasb (c .id) (eventsFrom 0 past) ≡ true
           → distinctb (eventsFrom 0 past ++ (pick b [] (event (c .id) (0 + gapsOf past + c .gap) ∷ []) ++ eventsFrom (0 + gapsOf past + c .gap) rest)) ≡ false
-      go true q m = contrary m (rw (eqb-true (c .id) filler q) (filler-not (eventsFrom 0 past) (proper-events 0 past)))
+      go true q m = contrary m (rw (eqb-true (c .id) filler q) (no-filler (eventsFrom 0 past) (proper-events 0 past)))
       go false q m = distinct-twice (eventsFrom 0 past) (event (c .id) (0 + gapsOf past + c .gap)) (eventsFrom (0 + gapsOf past + c .gap) rest) m
 
   -- and one that is not

@@ -5,20 +5,20 @@ use mathlib.Core.List.{List, [], _∷_, _++_, append-assoc}
 use Prim.Native.Nat.{ℕ, zero, suc, _+_, _-_, _*_, _/_, _≤_, _<_}
 use native.Mathlib.Omega.{arith}
 use native.Mathlib.Nat.{zero-mul, suc-mul}
-use lib.Dec.{leb, ltb, eqb}
+use lib.Dec.{eqb}
 use lib.ListN.{length, getD, take, drop, set, replicate}
 use borrow.Author.Tests.{eq-eqb, ne-eqb, lt-ltb, le-ltb, eqb-true, eqb-false}
 use Rattle.refusal.specs.Small.{pick, both, padded}
-use Rattle.refusal.proofs.Small.{contrary}
 use Rattle.queue.specs.Limits.{cellCount, filler}
-use Rattle.queue.specs.Row.{Event, event, cell, cellsOf, queueOf, eventsOf, eventsFrom, chain, cellsFor, normal}
+use Rattle.queue.specs.Row.{Event, cell, cellsOf, queueOf, eventsOf, chain, cellsFor, normal}
 use Rattle.queue.specs.Calls.{dueb, earlier, dueId, withoutDue, formed}
 use Rattle.queue.specs.Steps.{firstCell, dueStep, lessHead, nearerStep, restStep, tickStep}
 use Rattle.queue.specs.declared.Cell.{Cell}
 use Rattle.queue.specs.declared.Queue.{Queue}
 use Rattle.queue.proofs.Cells.{made-len, made-row}
 use Rattle.queue.proofs.Normal.{sorted, proper, sorted-events, proper-events, chain-of, one-cell, split}
-use Rattle.queue.proofs.Soundness.{Sound, sound-cells, sound-again}
+use Rattle.queue.proofs.Soundness.{Sound}
+use Rattle.queue.proofs.Events.{normal-earlier, not-due, due-later, due-first}
 
 -- ON ARRAYS: what the stores of a loop come to
 
@@ -148,33 +148,16 @@ tick-cells M g id rest n m p =
     let e : k * M + r - 1 ≡ g - 1 = omega arith in
     rw a (b ∙ ap (λ (x : ℕ). cellsFor M x id ++ rest) e)
 
--- events that all come 1 earlier, counted from 1 earlier, have the same cells
-pub normal-earlier : (M t : ℕ) (es : List Event) → 1 ≤ t → sorted t es → normal M (t - 1) (earlier es) ≡ normal M t es
-normal-earlier M t [] h s = refl
-normal-earlier M t (e ∷ es) h s =
-    let d : e .at - 1 - (t - 1) ≡ e .at - t = omega arith in
-    rw (d, normal-earlier M (e .at) es (omega (arith, s .0)) (s .1))
-
 -- THE CLOCK'S LAW
 pub tick-normal : (M : ℕ) (es : List Event) → 1 ≤ M → sorted 0 es → proper es → dueb es ≡ false → tickCells (normal M 0 es) ≡ normal M 0 (earlier es)
 tick-normal M [] m s p d = refl
 tick-normal M (e ∷ es) m s p d =
-    let h : 1 ≤ e .at = go (eqb (e .at) 0) refl d in
+    let h : 1 ≤ e .at = not-due e es d in
     let a : e .at - 0 ≡ e .at = omega arith in
     let b : e .at - 1 - 0 ≡ e .at - 1 = omega arith in
     rw (a, b, normal-earlier M (e .at) es h (s .1)) (tick-cells M (e .at) (e .id) (normal M (e .at) es) (p .0) m h)
-  where
-    go : (b : Bool) → eqb (e .at) 0 ≡ b → pick b true (dueb es) ≡ false → 1 ≤ e .at
-    go true q f = let z : _≡_ {A = ℕ} 0 1 = cc in omega arith
-    go false q f = let n : e .at ≡ 0 → ⊥ = eqb-false (e .at) 0 q in omega arith
 
 -- an event is due where the first cell has gap 0
-pub due-later : (t : ℕ) (es : List Event) → 1 ≤ t → sorted t es → dueb es ≡ false
-due-later t [] h s = refl
-due-later t (e ∷ es) h s =
-    let a : eqb (e .at) 0 ≡ false = ne-eqb (e .at) 0 (λ q. omega (arith, s .0)) in
-    rw a (due-later (e .at) es (omega (arith, s .0)) (s .1))
-
 pub now-chain : (M k id r : ℕ) (rest : List Cell) → nowb (chain M k id r ++ rest) ≡ eqb r 0
 now-chain M zero id r rest = refl
 now-chain M (suc k) id r rest = refl
@@ -196,17 +179,6 @@ due-now M (e ∷ es) m s = go (eqb (e .at) 0) refl
         let c : cellsFor M (e .at) (e .id) ≡ chain M k (e .id) r = ap (λ (x : ℕ). cellsFor M x (e .id)) (w .2) ∙ chain-of M k (e .id) r (w .0) (w .1) in
         let f : eqb r 0 ≡ false = ne-eqb r 0 (λ x. omega arith) in
         rw (q, a, c, now-chain M k (e .id) r (normal M (e .at) es), f) (due-later (e .at) es h (s .1))
-
--- where an event is due it stands first
-pub due-first : (es : List Event) → sorted 0 es → dueb es ≡ true → es ≡ event (dueId es) 0 ∷ withoutDue es
-due-first [] s d = contrary d refl
-due-first (e ∷ es) s d = go (eqb (e .at) 0) refl d
-  where
-    go : (b : Bool) → eqb (e .at) 0 ≡ b → pick b true (dueb es) ≡ true → e ∷ es ≡ event (pick b (e .id) (dueId es)) 0 ∷ pick b es (e ∷ withoutDue es)
-    go true p f = let z : e .at ≡ 0 = eqb-true (e .at) 0 p in λ i. (record { id = e .id; at = z i }) ∷ es
-    go false p f =
-        let n : e .at ≡ 0 → ⊥ = eqb-false (e .at) 0 p in
-        contrary f (due-later (e .at) es (omega arith) (s .1))
 
 -- THE TAKE'S LAW: its cell goes, and no other changes
 pub take-normal : (M : ℕ) (es : List Event) → 1 ≤ M → sorted 0 es → dueb es ≡ true → normal M 0 es ≡ cell (dueId es) 0 ∷ normal M 0 (withoutDue es)

@@ -19,7 +19,6 @@ use Rattle.queue.specs.Moves.{part, walk, passOf, Walked, removeFrom, So
 use Rattle.queue.specs.declared.Cell.{Cell}
 use Rattle.queue.specs.declared.Queue.{Queue}
 use Rattle.queue.specs.declared.Walk.{Walk}
-use Rattle.queue.proofs.Normal.{proper}
 
 -- PARTS OF A ROW
 
@@ -111,11 +110,6 @@ events-pass f cs w c here p =
     (λ e. rw (here, e) (p (eventsFrom (w .at + c .gap) (drop (w .next + 1) cs))))
 
 -- WHAT IS NOT THERE
-
--- no event has the id of a filler
-pub no-filler : (es : List Event) → proper es → hasb filler es ≡ false
-no-filler [] p = refl
-no-filler (e ∷ es) p = rw (p .0) (no-filler es (p .1))
 
 pub sought-nowhere : (q : Queue) (id : ℕ) → hasb id (eventsOf q) ≡ false → Sought q id nowhereFound
 sought-nowhere q id n =

@@ -5,3 +5,4 @@ pub mod Calls
 pub mod Lent
 pub mod Steps
 pub mod Moves
+pub mod Edge

@@ -28,6 +28,15 @@ pub both-swap : (a b : Bool) → both a b ≡ both b a
 both-swap true b = sym (both-true b)
 both-swap false b = sym (both-false b)
 
+-- neither of two tests holds
+pub neither-left : (a b : Bool) → pick a true b ≡ false → a ≡ false
+neither-left true b e = e
+neither-left false b e = refl
+
+pub neither-right : (a b : Bool) → pick a true b ≡ false → b ≡ false
+neither-right true b e = cc
+neither-right false b e = e
+
 -- a test that is both true and false
 pub contrary {ℓ} : {A : Type ℓ} {b : Bool} → b ≡ true → b ≡ false → A
 contrary p q = let z : _≡_ {A = ℕ} 0 1 = cc in absurd (omega arith)

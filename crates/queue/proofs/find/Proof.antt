@@ -14,7 +14,8 @@ use Rattle.queue.specs.Calls.{distanceOf}
 use Rattle.queue.specs.Moves.{Walked, removeCells}
 use Rattle.queue.proofs.Cells.{cells-step, cells-end}
 use Rattle.queue.proofs.Normal.{proper-events}
-use Rattle.queue.proofs.Walking.{walked-none, walked-pass, pass-next, removing, remove-pass, events-pass, no-filler, sought-nowhere}
+use Rattle.queue.proofs.Events.{no-filler}
+use Rattle.queue.proofs.Walking.{walked-none, walked-pass, pass-next, removing, remove-pass, events-pass, sought-nowhere}
 use Rattle.queue.proofs.find.Statement.{statement}
 use Rattle.queue.proofs.find.Tie as tie
 

@@ -1,85 +1,83 @@
--- "Prove that any two outcomes allowed by it are equal": each public call's contract is `r ≡ callOf ..` (src/lib.rt), so that two answers which it
--- allows are the same. Assumes nothing.
-use mathlib.Core.Path.{_≡_, sym, _∙_}
-use mathlib.Core.List.{[]}
-use Prim.Native.Nat.{ℕ}
+-- ONE OUTCOME: any two outcomes that a public call's contract allows are equal. Stated over the contracts themselves: `f.Post κs a r e` is what the
+-- contract of `f` says of the arguments a, the result r and the parameters e as they are at exit. Assumes nothing.
+use mathlib.Core.Path.{_≡_}
+use Rattle.refusal.proofs.Outcome.{One, same}
 use Rattle.queue.specs.Limits.{maxGap, longest}
-use Rattle.queue.specs.Row.{queueOf}
-use Rattle.queue.specs.Sound.{soundb}
-use Rattle.queue.specs.Calls.{insertOf, removeOf, timeLeftOf, clockOf, takeOf, pushBackOf}
+use Rattle.queue.specs.Calls.{clockOf, takeOf}
 use Rattle.queue.specs.Lent.{tookOf}
-use Rattle.queue.specs.Steps.{firstCell, dueStep, nearerStep, restStep, tickStep, paceStep, placeStep}
 use Rattle.queue.specs.declared.Queue.{Queue}
-use Rattle.queue.specs.declared.Distance.{Distance}
+use Rattle.queue.proofs.Queue.empty.Reads as empty
+use Rattle.queue.proofs.sound.Reads as sound
+use Rattle.queue.proofs.insert.Reads as insert
+use Rattle.queue.proofs.remove.Reads as remove
+use Rattle.queue.proofs.time_left.Reads as time-left
+use Rattle.queue.proofs.clock.Reads as clock
+use Rattle.queue.proofs.take.Reads as take
+use Rattle.queue.proofs.push_back.Reads as push-back
+use Rattle.queue.proofs.pace_of.Reads as pace-of
+use Rattle.queue.proofs.due.Reads as due
+use Rattle.queue.proofs.first_id.Reads as first-id
+use Rattle.queue.proofs.nearer.Reads as nearer
+use Rattle.queue.proofs.without_first.Reads as without-first
+use Rattle.queue.proofs.ticked.Reads as ticked
+use Rattle.queue.proofs.placed.Reads as placed
 
--- any two outcomes that the contract `r ≡ outcome` allows are equal
-abbrev pub One : {A : Type 0} → A → Type 0
-One {A = A} outcome = (r s : A) → r ≡ outcome → s ≡ outcome → r ≡ s
+pub empty-one : One empty.Post (λ κs x e. x)
+empty-one κs a x y e f p q = same p q
 
-pub one-outcome : {A : Type 0} (outcome : A) → One outcome
-one-outcome outcome r s e f = e ∙ sym f
+-- the calls
 
--- the same of a call on a queue that is lent: its answer and the queue that the lender has afterwards
-abbrev pub OneLent : {A : Type 0} → A → Queue → Type 0
+pub sound-one : One sound.Post (λ κs x e. x)
+sound-one κs a x y e f p q = same p q
+
+pub insert-one : One insert.Post (λ κs x e. x)
+insert-one κs a x y e f p q = same p q
+
+pub remove-one : One remove.Post (λ κs x e. x)
+remove-one κs a x y e f p q = same p q
+
+pub time-left-one : One time-left.Post (λ κs x e. x)
+time-left-one κs a x y e f p q = same p q
+
+pub clock-one : One clock.Post (λ κs x e. x)
+clock-one κs a x y e f p q = same p q
+
+pub take-one : One take.Post (λ κs x e. x)
+take-one κs a x y e f p q = same p q
+
+pub push-back-one : One push-back.Post (λ κs x e. x)
+push-back-one κs a x y e f p q = same p q
+
+-- the total steps
+
+pub pace-one : One pace-of.Post (λ κs x e. x)
+pace-one κs a x y e f p q = same p q
+
+pub due-one : One due.Post (λ κs x e. x)
+due-one κs a x y e f p q = same p q
+
+pub first-id-one : One first-id.Post (λ κs x e. x)
+first-id-one κs a x y e f p q = same p q
+
+pub nearer-one : One nearer.Post (λ κs x e. x)
+nearer-one κs a x y e f p q = same p q
+
+pub rest-one : One without-first.Post (λ κs x e. x)
+rest-one κs a x y e f p q = same p q
+
+pub tick-one : One ticked.Post (λ κs x e. x)
+tick-one κs a x y e f p q = same p q
+
+pub place-one : One placed.Post (λ κs x e. x)
+place-one κs a x y e f p q = same p q
+
+-- the calls on a queue that is lent, for which the checker makes no `Reads`: their contracts' words, as src/lib.rt has them, of the answer and of the
+-- queue that the lender has afterwards
+abbrev OneLent : {A : Type 0} → A → Queue → Type 0
 OneLent {A = A} answer after = (r s : A) (p next : Queue) → (r ≡ answer) × (p ≡ after) → (s ≡ answer) × (next ≡ after) → (r ≡ s) × (p ≡ next)
 
-pub one-lent : {A : Type 0} (answer : A) (after : Queue) → OneLent answer after
-one-lent answer after r s p next e f = (one-outcome answer r s (e .0) (f .0), one-outcome after p next (e .1) (f .1))
+pub clock-in-one : (q : Queue) → OneLent (clockOf maxGap longest q .refusal) (clockOf maxGap longest q .queue)
+clock-in-one q r s p next e f = (same (e .0) (f .0), same (e .1) (f .1))
 
-pub empty-one : One (queueOf [])
-empty-one = one-outcome (queueOf [])
-
-module _ (q : Queue) where
-  -- the calls
-
-  pub sound-one : One (soundb maxGap longest q)
-  sound-one = one-outcome (soundb maxGap longest q)
-
-  pub insert-one : (id : ℕ) (delay : Distance) → One (insertOf maxGap longest q id (delay .0))
-  insert-one id delay = one-outcome (insertOf maxGap longest q id (delay .0))
-
-  pub remove-one : (id : ℕ) → One (removeOf maxGap longest q id)
-  remove-one id = one-outcome (removeOf maxGap longest q id)
-
-  pub time-left-one : (id : ℕ) → One (timeLeftOf maxGap longest q id)
-  time-left-one id = one-outcome (timeLeftOf maxGap longest q id)
-
-  pub clock-one : One (clockOf maxGap longest q)
-  clock-one = one-outcome (clockOf maxGap longest q)
-
-  pub take-one : One (takeOf maxGap longest q)
-  take-one = one-outcome (takeOf maxGap longest q)
-
-  pub push-back-one : One (pushBackOf maxGap longest q)
-  push-back-one = one-outcome (pushBackOf maxGap longest q)
-
-  -- the calls on a queue that is lent
-
-  pub clock-in-one : OneLent (clockOf maxGap longest q .refusal) (clockOf maxGap longest q .queue)
-  clock-in-one = one-lent (clockOf maxGap longest q .refusal) (clockOf maxGap longest q .queue)
-
-  pub take-in-one : OneLent (tookOf (takeOf maxGap longest q)) (takeOf maxGap longest q .queue)
-  take-in-one = one-lent (tookOf (takeOf maxGap longest q)) (takeOf maxGap longest q .queue)
-
-  -- the total steps
-
-  pub pace-one : One (paceStep q)
-  pace-one = one-outcome (paceStep q)
-
-  pub due-one : One (dueStep q)
-  due-one = one-outcome (dueStep q)
-
-  pub first-id-one : One (firstCell q .id)
-  first-id-one = one-outcome (firstCell q .id)
-
-  pub nearer-one : One (nearerStep q)
-  nearer-one = one-outcome (nearerStep q)
-
-  pub rest-one : One (restStep q)
-  rest-one = one-outcome (restStep q)
-
-  pub tick-one : One (tickStep q)
-  tick-one = one-outcome (tickStep q)
-
-  pub place-one : (id : ℕ) (delay : Distance) → One (placeStep maxGap q id (delay .0))
-  place-one id delay = one-outcome (placeStep maxGap q id (delay .0))
+pub take-in-one : (q : Queue) → OneLent (tookOf (takeOf maxGap longest q)) (takeOf maxGap longest q .queue)
+take-in-one q r s p next e f = (same (e .0) (f .0), same (e .1) (f .1))

@@ -6,7 +6,7 @@ use mathlib.Core.Logic.{_↔_, Iff·trans}
 use Prim.Native.Nat.{ℕ, zero, suc}
 use lib.Dec.{eqb}
 use lib.ListN.{getD, take, drop}
-use borrow.Author.Tests.{eqb-true, eqb-false, not-true}
+use borrow.Author.Tests.{eqb-true, eqb-false, ne-eqb, not-true}
 use Rattle.refusal.specs.Small.{pick, both}
 use Rattle.refusal.specs.Refusal.{Check, check, firstOf}
 use Rattle.refusal.specs.declared.Refusal.{Refusal}
@@ -65,6 +65,27 @@ passes (c ∷ cs) o = (λ e. forth (c .holds) refl e (passes cs (o .1) .0), λ h
     forth true p e r = absurd (o .0 e)
     forth false p e r = (p, r e)
 
+pub numbered-append : (xs ys : List Check) → Numbered xs → Numbered ys → Numbered (xs ++ ys)
+numbered-append [] ys o p = p
+numbered-append (x ∷ xs) ys o p = (o .0, numbered-append xs ys (o .1) p)
+
+-- of two lists of checks, the second is asked where the first refuses nothing
+pub first-append : (xs ys : List Check) → Numbered xs → firstOf (xs ++ ys) ≡ pick (eqb (firstOf xs .number) 0) (firstOf ys) (firstOf xs)
+first-append [] ys o = refl
+first-append (x ∷ xs) ys o = go (x .holds) (first-append xs ys (o .1))
+  where
+    go : (b : Bool) → firstOf (xs ++ ys) ≡ pick (eqb (firstOf xs .number) 0) (firstOf ys) (firstOf xs)
+        → pick b (x .refusal) (firstOf (xs ++ ys)) ≡ pick (eqb (pick b (x .refusal) (firstOf xs) .number) 0) (firstOf ys) (pick b (x .refusal) (firstOf xs))
+    go true r = rw (ne-eqb (x .refusal .number) 0 (o .0))
+    go false r = r
+
+pub neither-refuses : (xs ys : List Check) → Numbered xs → firstOf (xs ++ ys) .number ≡ 0 → (firstOf xs .number ≡ 0) × (firstOf ys .number ≡ 0)
+neither-refuses xs ys o e = go (eqb (firstOf xs .number) 0) refl (rw (first-append xs ys o) at e)
+  where
+    go : (b : Bool) → eqb (firstOf xs .number) 0 ≡ b → pick b (firstOf ys) (firstOf xs) .number ≡ 0 → (firstOf xs .number ≡ 0) × (firstOf ys .number ≡ 0)
+    go true p f = (eqb-true (firstOf xs .number) 0 p, f)
+    go false p f = absurd (eqb-false (firstOf xs .number) 0 p f)
+
 -- a check of the list that holds, and none before it
 pub record First (r : Refusal) (cs : List Check) : Type 0 where
   pub before : List Check
@@ -114,7 +135,7 @@ other n [] h = eqb-false n 0 (not-true (eqb n 0) h)
 other n (c ∷ cs) h =
     (eqb-false (c .refusal .number) n (not-true (eqb (c .refusal .number) n) (both-left _ _ h)), other n cs (both-right (not (eqb (c .refusal .number) n)) _ h))
 
-numbered : (cs : List Check) → numberedb cs ≡ true → Numbered cs
+pub numbered : (cs : List Check) → numberedb cs ≡ true → Numbered cs
 numbered [] h = tt
 numbered (c ∷ cs) h =
     (eqb-false (c .refusal .number) 0 (not-true (eqb (c .refusal .number) 0) (both-left _ _ h)), numbered cs (both-right (not (eqb (c .refusal .number) 0)) _ h))

@@ -1,2 +1,3 @@
 pub mod Small
 pub mod Exactly
+pub mod Outcome

@@ -1,0 +1,13 @@
+-- `table::known_kind` meets its contract: the two tests are those of the definition, in its order.
+use borrow.Author.Tests.{eq-eqb, ne-eqb}
+use Rattle.table.proofs.known_kind.Statement.{statement}
+use Rattle.table.proofs.known_kind.Tie as tie
+
+returns : tie.Need-returns
+returns c = simp (eq-eqb _ _ (c .if1 .taken))
+
+returns-2 : tie.Need-returns-2
+returns-2 c = simp (ne-eqb _ _ (c .if1 .left))
+
+pub known-kind-spec : {M : Type 1} → statement M
+known-kind-spec = tie.close (tie.spec returns returns-2)

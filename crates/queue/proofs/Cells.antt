@@ -1,13 +1,13 @@
--- Laws of the queue as a list of cells: what its array holds, how one cell more is stored, how a loop walks it. Assumes nothing.
-use mathlib.Core.Path.{_≡_, refl, sym, ap, _∙_}
+-- Laws of the queue as a list of cells: what its array holds, and how a loop walks it. Assumes nothing.
+use mathlib.Core.Path.{_≡_, sym, ap, _∙_}
 use mathlib.Core.List.{List, [], _∷_, _++_}
-use Prim.Native.Nat.{ℕ, zero, suc, _+_, _-_, _≤_, _<_, min}
+use Prim.Native.Nat.{ℕ, zero, suc, _+_, _-_, _≤_, _<_}
 use native.Mathlib.Omega.{arith}
 use native.Mathlib.Numerals.{add-one}
-use lib.ListN.{length, getD, take, drop, set, length-append, length-take, drop-of-length-le}
-use lib.Seq.{drop-cons, getD-take, length-take-le}
+use lib.ListN.{length, getD, take, drop, replicate, drop-of-length-le}
+use lib.Seq.{drop-append-add, drop-cons, getD-take, length-take-le}
 use Rattle.refusal.specs.Small.{padded}
-use Rattle.refusal.proofs.Small.{padded-push, take-padded}
+use Rattle.refusal.proofs.Small.{take-padded}
 use Rattle.queue.specs.Limits.{cellCount}
 use Rattle.queue.specs.Row.{cell, cellsOf, queueOf}
 use Rattle.queue.specs.declared.Cell.{Cell}
@@ -33,16 +33,19 @@ module _ (q : Queue) (cs : List Cell) (e : q ≡ queueOf cs) where
   pub made-again : q ≡ queueOf (cellsOf q)
   made-again = e ∙ ap queueOf (sym made-cells)
 
--- one cell more, stored behind the last
-pub push-queue : (q : Queue) (cs : List Cell) (x : Cell) → q ≡ queueOf cs → q .len < cellCount
-    → _≡_ {A = Queue} (record { cells = set (q .cells) (q .len) x; len = q .len + 1 }) (queueOf (cs ++ (x ∷ [])))
-unfolding queueOf
-push-queue q cs x e h =
-    let l : q .len ≡ length cs = made-len q cs e in
-    let d : q .cells ≡ padded (cell 0 0) cellCount cs = made-row q cs e in
-    let f : set (q .cells) (q .len) x ≡ padded (cell 0 0) cellCount (cs ++ (x ∷ [])) = rw (d, l) (padded-push (cell 0 0) cellCount cs x (omega arith)) in
-    let g : q .len + 1 ≡ length (cs ++ (x ∷ [])) = simp length-append (omega arith) in
-    λ i. record { cells = f i; len = g i }
+-- past the cells of a list only the zero cells are left
+drop-zeros : (k n : ℕ) → drop k (replicate n (cell 0 0)) ≡ replicate (n - k) (cell 0 0)
+drop-zeros zero n = let e : n - 0 ≡ n = omega arith in rw e
+drop-zeros (suc k) zero = let e : 0 - suc k ≡ 0 = omega arith in rw e
+drop-zeros (suc k) (suc n) = let e : suc n - suc k ≡ n - k = omega arith in rw e (drop-zeros k n)
+
+pub made-past : (q : Queue) (cs : List Cell) → q ≡ queueOf cs → (k : ℕ) → length cs ≤ k → drop k (q .cells) ≡ replicate (cellCount - k) (cell 0 0)
+made-past q cs e k h =
+    let a : length cs + (k - length cs) ≡ k = omega arith in
+    let b : cellCount - length cs - (k - length cs) ≡ cellCount - k = omega arith in
+    let d : drop (length cs + (k - length cs)) (cs ++ replicate (cellCount - length cs) (cell 0 0)) ≡ replicate (cellCount - length cs - (k - length cs)) (cell 0 0) =
+    drop-append-add cs (replicate (cellCount - length cs) (cell 0 0)) (k - length cs) ∙ drop-zeros (k - length cs) (cellCount - length cs) in
+    rw (made-row q cs e) (rw (a, b) at d)
 
 -- a walk over the cells in use; in a function's proof `full` is what owning the queue tells
 module _ (q : Queue) (full : length (q .cells) ≡ cellCount) (fits : q .len ≤ cellCount) where

@@ -1,5 +1,5 @@
 -- Laws of what the calls do to a list of events: what stays in order, proper, near and distinct, and how many cells it takes. Assumes nothing.
-use mathlib.Core.Path.{_≡_, refl, sym, ap}
+use mathlib.Core.Path.{_≡_, refl, sym, ap, _∙_}
 use mathlib.Core.Bool.{Bool, true, false, not}
 use mathlib.Core.List.{List, [], _∷_}
 use Prim.Native.Nat.{ℕ, suc, _+_, _-_, _/_, _≤_, _<_}
@@ -10,7 +10,7 @@ use borrow.Author.Tests.{eq-eqb, ne-eqb, le-leb, leb-true, leb-false, eqb-true, 
 use Rattle.refusal.specs.Small.{pick}
 use Rattle.refusal.proofs.Small.{both-left, both-right, neither-left, neither-right, contrary}
 use Rattle.queue.specs.Limits.{filler}
-use Rattle.queue.specs.Row.{Event, event, normal}
+use Rattle.queue.specs.Row.{Event, event, cellsFor, normal}
 use Rattle.queue.specs.Sound.{hasb, distinctb, nearb}
 use Rattle.queue.specs.Calls.{withEvent, withoutEvent, distanceOf, dueb, earlier, dueId, withoutDue, later, farb}
 use Rattle.queue.proofs.Normal.{sorted, proper, sorted-from, cells-count, fillers-grow, joined-fewer}
@@ -106,6 +106,20 @@ first-fewer M s t (e ∷ es) m h p =
     let f : (t - s + (e .at - t) - 1) / M ≤ suc ((t - s - 1) / M + (e .at - t - 1) / M) = joined-fewer M (t - s) (e .at - t) m in
     let g : (e .at - s - 1) / M ≤ suc ((t - s - 1) / M + (e .at - t - 1) / M) = rw a at f in
     rw (length-append, length-append, cells-count M (e .at - s) (e .id), cells-count M (e .at - t) (e .id)) (omega arith)
+
+-- an event more takes no fewer cells
+pub with-more : (M t : ℕ) (x : Event) (es : List Event) → 1 ≤ M → t ≤ x .at → sorted t es → length (normal M t es) ≤ length (normal M t (withEvent x es))
+with-more M t x [] m h s = omega arith
+with-more M t x (e ∷ es) m h s = go (leb (e .at) (x .at)) refl (with-more M (e .at) x es m)
+  where
+    go : (b : Bool) → leb (e .at) (x .at) ≡ b → (e .at ≤ x .at → sorted (e .at) es → length (normal M (e .at) es) ≤ length (normal M (e .at) (withEvent x es)))
+        → length (normal M t (e ∷ es)) ≤ length (normal M t (pick b (e ∷ withEvent x es) (x ∷ e ∷ es)))
+    go true q r = rw (length-append, length-append) (omega (arith, r (leb-true (e .at) (x .at) q) (s .1)))
+    go false q r =
+        let l : x .at < e .at = leb-false (e .at) (x .at) q in
+        let f : length (normal M t (e ∷ es)) ≤ suc ((x .at - t - 1) / M) + length (normal M (x .at) (e ∷ es)) = first-fewer M t (x .at) (e ∷ es) m h (omega arith, s .1) in
+        let g : length (normal M t (x ∷ e ∷ es)) ≡ suc ((x .at - t - 1) / M) + length (normal M (x .at) (e ∷ es)) = length-append (cellsFor M (x .at - t) (x .id)) (normal M (x .at) (e ∷ es)) ∙ rw (cells-count M (x .at - t) (x .id)) in
+        omega arith
 
 pub without-sorted : (t id : ℕ) (es : List Event) → sorted t es → sorted t (withoutEvent id es)
 without-sorted t id [] s = tt

@@ -4,6 +4,7 @@ pub mod Form
 pub mod Soundness
 pub mod Events
 pub mod Scan
+pub mod Holding
 pub mod Walking
 pub mod Moving
 pub mod Ticking
@@ -16,4 +17,5 @@ pub mod Unchanged
 pub mod Keeps
 pub mod DueTimes
 pub mod Fewest
+pub mod Room
 pub mod Points

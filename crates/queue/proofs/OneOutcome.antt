@@ -8,6 +8,7 @@ use Rattle.queue.specs.Lent.{tookOf}
 use Rattle.queue.specs.declared.Queue.{Queue}
 use Rattle.queue.proofs.Queue.empty.Reads as empty
 use Rattle.queue.proofs.sound.Reads as sound
+use Rattle.queue.proofs.holds.Reads as holds
 use Rattle.queue.proofs.insert.Reads as insert
 use Rattle.queue.proofs.remove.Reads as remove
 use Rattle.queue.proofs.time_left.Reads as time-left
@@ -29,6 +30,9 @@ empty-one κs a x y e f p q = same p q
 
 pub sound-one : One sound.Post (λ κs x e. x)
 sound-one κs a x y e f p q = same p q
+
+pub holds-one : One holds.Post (λ κs x e. x)
+holds-one κs a x y e f p q = same p q
 
 pub insert-one : One insert.Post (λ κs x e. x)
 insert-one κs a x y e f p q = same p q

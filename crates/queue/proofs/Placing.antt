@@ -5,10 +5,10 @@ use mathlib.Core.Bool.{Bool, true, false}
 use mathlib.Core.List.{List, [], _∷_, _++_, append-assoc, append-nil}
 use Prim.Native.Nat.{ℕ, zero, suc, _+_, _-_, _*_, _/_, _≤_, _<_}
 use native.Mathlib.Omega.{arith}
-use native.Mathlib.Nat.{div-mul-le-self, sub-zero, zero-mul, suc-mul}
+use native.Mathlib.Nat.{div-mul-le-self, zero-mul, suc-mul}
 use native.Mathlib.Decide.{decLt}
-use lib.Dec.{leb, eqb}
-use lib.ListN.{length, getD, take, drop, length-append, length-drop}
+use lib.Dec.{leb, ltb, eqb}
+use lib.ListN.{length, getD, drop, length-drop}
 use lib.Seq.{drop-drop}
 use borrow.Author.Tests.{leb-true, leb-false, lt-leb, le-ltb}
 use Rattle.refusal.specs.Small.{pick}
@@ -19,14 +19,15 @@ use Rattle.queue.specs.Limits.{cellCount, filler}
 use Rattle.queue.specs.Row.{Event, event, cell, cellsOf, queueOf, eventsOf, chain, cellsFor, normal}
 use Rattle.queue.specs.Calls.{changed, formed, overfull, withEvent, withoutEvent}
 use Rattle.queue.specs.Steps.{regrouped, placeFrom, placeCells, placeStep}
-use Rattle.queue.specs.Moves.{part, next, nextOf, behindOf, removeFrom, removeCells}
+use Rattle.queue.specs.Moves.{next, nextOf, chainTo, behindOf, removeFrom, removeCells}
 use Rattle.queue.specs.declared.Cell.{Cell}
 use Rattle.queue.specs.declared.Queue.{Queue}
 use Rattle.queue.specs.declared.Next.{Next}
-use Rattle.queue.proofs.Cells.{made-cells, made-len, cells-length, cells-step, cells-end}
-use Rattle.queue.proofs.Normal.{sorted, proper, cells-count, sorted-events, proper-events}
+use Rattle.queue.proofs.Cells.{made-len, made-past, cells-length, cells-step, cells-end}
+use Rattle.queue.proofs.Normal.{sorted, proper, sorted-events, proper-events}
 use Rattle.queue.proofs.Soundness.{Sound, sound-cells}
-use Rattle.queue.proofs.Events.{without-fewer}
+use Rattle.queue.proofs.Events.{with-more, without-fewer}
+use Rattle.queue.proofs.Moving.{chain-cells}
 
 -- a gap is what its cells take
 whole : (M g : ℕ) → g - (g - 1) / M * M + (g - 1) / M * M ≡ g
@@ -140,8 +141,8 @@ remove-normal M id t (e ∷ es) s p =
 
 -- cells that are counted from another time: the next event, and what stands behind it
 pub regrouped-next : (M t u i : ℕ) (ds cs : List Cell) → ds ≡ drop i cs → regrouped M t u ds ≡ behindOf M u (nextOf t i ds) cs
-unfolding behindOf
-regrouped-next M t u i [] cs h = refl
+unfolding behindOf chainTo
+regrouped-next M t u i [] cs h = h
 regrouped-next M t u i (c ∷ ds) cs h =
     let f : ds ≡ drop (i + 1) cs = ap (drop 1) h ∙ drop-drop 1 i cs in
     go (eqb (c .id) filler) refl f (regrouped-next M (t + c .gap) u (i + 1) ds cs f)
@@ -149,7 +150,7 @@ regrouped-next M t u i (c ∷ ds) cs h =
     go : (b : Bool) → eqb (c .id) filler ≡ b → ds ≡ drop (i + 1) cs → regrouped M (t + c .gap) u ds ≡ behindOf M u (nextOf (t + c .gap) (i + 1) ds) cs
         → pick b (regrouped M (t + c .gap) u ds) (cellsFor M (t + c .gap - u) (c .id) ++ ds) ≡ behindOf M u (pick b (nextOf (t + c .gap) (i + 1) ds) (next (c .id) (t + c .gap) (i + 1))) cs
     go true q f r = r
-    go false q f r = rw q (ap (λ (l : List Cell). cellsFor M (t + c .gap - u) (c .id) ++ l) f)
+    go false q f r = rw (q, chain-cells M (t + c .gap - u) (c .id)) (ap (λ (l : List Cell). cellsFor M (t + c .gap - u) (c .id) ++ l) f)
 
 -- its place is in the row
 pub next-within : (t i : ℕ) (cs : List Cell) → nextOf t i cs .behind ≤ i + length cs
@@ -176,15 +177,6 @@ next-beyond t i c cs = go (eqb (c .id) filler)
     go : (b : Bool) → t + c .gap ≤ pick b (nextOf (t + c .gap) (i + 1) cs) (next (c .id) (t + c .gap) (i + 1)) .at
     go true = next-later (t + c .gap) (i + 1) cs
     go false = omega arith
-
--- how many cells it and what stands behind it take
-pub behind-length : (M u : ℕ) (n : Next) (cs : List Cell) → length (behindOf M u n cs) ≤ suc ((n .at - u - 1) / M) + length cs
-unfolding behindOf
-behind-length M u n cs = go (eqb (n .id) filler)
-  where
-    go : (b : Bool) → length (pick b [] (cellsFor M (n .at - u) (n .id) ++ drop (n .behind) cs)) ≤ suc ((n .at - u - 1) / M) + length cs
-    go true = omega arith
-    go false = rw (length-append, cells-count M (n .at - u) (n .id), length-drop) (omega arith)
 
 -- what the next event n is to a queue whose cells from the place i on are counted from t
 pub record Following (q : Queue) (t i : ℕ) (n : Next) : Type 0 where
@@ -213,16 +205,6 @@ following q full fits t i h n e =
         let a : n ≡ next filler t i = e ∙ ap (nextOf t i) (cells-end q full fits i (omega arith)) in
         contrary (ap (λ (x : Next). eqb (x .id) filler) a) f
 
--- MADE OF PARTS
-
--- a queue that has some cells behind those of another, which is made of a list
-pub made-behind : (q r : Queue) (cs ds : List Cell) → q ≡ queueOf cs → r ≡ queueOf (cellsOf q ++ ds) → r ≡ queueOf (cs ++ ds)
-made-behind q r cs ds e f = f ∙ ap (λ (l : List Cell). queueOf (l ++ ds)) (made-cells q cs e)
-
--- the cells of a queue up to a place, copied into an empty queue
-pub copied-head : (q e r : Queue) (k : ℕ) → e ≡ queueOf [] → r ≡ queueOf (cellsOf e ++ part 0 k (cellsOf q)) → r ≡ queueOf (take k (cellsOf q))
-copied-head q e r k h f = rw sub-zero at (made-behind e r [] (part 0 k (cellsOf q)) h f)
-
 -- OF A SOUND QUEUE
 
 module _ (M D : ℕ) (q : Queue) (s : Sound M D q) where
@@ -232,14 +214,30 @@ module _ (M D : ℕ) (q : Queue) (s : Sound M D q) where
   pub remove-sound : (id : ℕ) → removeCells M id (cellsOf q) ≡ normal M 0 (withoutEvent id (eventsOf q))
   remove-sound id = ap (removeCells M id) (sound-cells M D q s) ∙ remove-normal M id 0 (eventsOf q) (sorted-events 0 (cellsOf q)) (proper-events 0 (cellsOf q))
 
-  -- what is left when an event is taken out has room
-  pub remove-fits : (id : ℕ) → 1 ≤ M → length (removeCells M id (cellsOf q)) ≤ cellCount
-  remove-fits id m =
+  -- when an event is taken out, no more cells are left
+  pub remove-fewer : (id : ℕ) → 1 ≤ M → length (removeCells M id (cellsOf q)) ≤ q .len
+  remove-fewer id m =
       let h = without-fewer M 0 id (eventsOf q) m (sorted-events 0 (cellsOf q)) in
-      rw (remove-sound id) (omega (arith, s .short, made-len q (normal M 0 (eventsOf q)) (s .form)))
+      rw (remove-sound id) (omega (arith, made-len q (normal M 0 (eventsOf q)) (s .form)))
+
+  -- and with one more there are no fewer
+  pub place-more : (id d : ℕ) → 1 ≤ M → q .len ≤ length (placeCells M id d (cellsOf q))
+  place-more id d m =
+      let h = with-more M 0 (event id d) (eventsOf q) m (omega arith) (sorted-events 0 (cellsOf q)) in
+      rw (place-sound id d) (omega (arith, made-len q (normal M 0 (eventsOf q)) (s .form)))
 
   -- putting an event in with no test but for room is the last test and the outcome of the call
-  pub place-step : (id d : ℕ) → placeStep M q id d
+  pub place-step : (id d : ℕ) → 1 ≤ M → placeStep M q id d
       ≡ changed (firstOf (check noRoom (overfull M (withEvent (event id d) (eventsOf q))) ∷ [])) q (formed M (withEvent (event id d) (eventsOf q)))
-  unfolding placeStep
-  place-step id d = rw (le-ltb cellCount (q .len) (s .short), place-sound id d)
+  unfolding placeStep queueOf
+  place-step id d m = rw (le-ltb cellCount (q .len) (s .short)) (go (place-more id d m))
+    where
+      row : List Cell
+      row = placeCells M id d (cellsOf q)
+
+      go : q .len ≤ length row
+          → changed (firstOf (check noRoom (ltb cellCount (length row)) ∷ [])) q (record { cells = row ++ drop (length row) (q .cells); len = length row })
+          ≡ changed (firstOf (check noRoom (overfull M (withEvent (event id d) (eventsOf q))) ∷ [])) q (formed M (withEvent (event id d) (eventsOf q)))
+      go h =
+          let l : length (normal M 0 (eventsOf q)) ≤ length row = omega (arith, made-len q (normal M 0 (eventsOf q)) (s .form)) in
+          rw (made-past q (normal M 0 (eventsOf q)) (s .form) (length row) l, place-sound id d)

@@ -2,13 +2,12 @@
 -- distance. Over any M and D. Assumes nothing.
 use mathlib.Core.Path.{_≡_, refl, sym, ap, _∙_}
 use mathlib.Core.Bool.{Bool, true, false, not}
-use mathlib.Core.List.{List, [], _∷_, _++_, append-nil}
-use Prim.Native.Nat.{ℕ, zero, suc, _+_, _-_, _*_, _≤_, _<_}
+use mathlib.Core.List.{List, [], _∷_, _++_}
+use Prim.Native.Nat.{ℕ, zero, suc, _+_, _-_, _*_, _≤_}
 use native.Mathlib.Omega.{arith}
 use native.Mathlib.Nat.{suc-mul}
 use lib.Dec.{leb, ltb, eqb}
-use lib.ListN.{length, getD, take, drop, set, replicate, drop-of-length-le}
-use lib.Seq.{paste, paste-suc, take-append-add}
+use lib.ListN.{length, drop, set}
 use borrow.Author.Tests.{eq-eqb, ne-eqb, le-leb, lt-leb, lt-ltb, le-ltb, leb-true, eqb-true, eqb-false}
 use Rattle.refusal.specs.Small.{pick, both, padded}
 use Rattle.refusal.proofs.Small.{both-left, both-right}
@@ -128,53 +127,7 @@ module _ (q : Queue) (full : length (q .cells) ≡ cellCount) (fits : q .len ≤
           let n : q .len ≡ cellCount → ⊥ = eqb-false (q .len) cellCount p in
           le-ltb cellCount (length (pushCells M (cellsOf q))) (omega (arith, push-most M (cellsOf q), cells-length q full fits))
 
--- THE ROW, one place up: `paste cs 1 cs n` has the first n cells stored anew behind the first
-
-pub shift-step : (cs : List Cell) (i : ℕ) → 1 ≤ i → i < length cs → set (paste cs 1 cs (i - 1)) i (getD cs (i - 1) (cell 0 0)) ≡ paste cs 1 cs (i + 1 - 1)
-shift-step cs i h l =
-    let e : i ≡ 1 + (i - 1) = omega arith in
-    let f : suc (i - 1) ≡ i + 1 - 1 = omega arith in
-    ap (λ (k : ℕ). set (paste cs 1 cs (i - 1)) k (getD cs (i - 1) (cell 0 0))) e
-    ∙ paste-suc cs 1 cs (i - 1) (cell 0 0) (omega arith) (omega arith)
-    ∙ ap (paste cs 1 cs) f
-
-one-less : (k : ℕ) → take k (replicate (suc k) (cell 0 0)) ≡ replicate k (cell 0 0)
-one-less zero = refl
-one-less (suc k) = ap {B = List Cell} (λ cs. cell 0 0 ∷ cs) (one-less k)
-
--- a padded row without its last cell
-padded-less : (n : ℕ) (cs : List Cell) → length cs ≤ n → take n (padded (cell 0 0) (suc n) cs) ≡ padded (cell 0 0) n cs
-padded-less n cs h =
-    let k = n - length cs in
-    let l : n ≡ length cs + k = omega arith in
-    let e : suc n - length cs ≡ suc k = omega arith in
-    rw e
-    (ap (λ (m : ℕ). take m (cs ++ replicate (suc k) (cell 0 0))) l
-    ∙ take-append-add cs (replicate (suc k) (cell 0 0)) k
-    ∙ ap {B = List Cell} (λ ds. cs ++ ds) (one-less k))
-
-set-first : (x : Cell) (cs ds es : List Cell) → 1 ≤ length cs → set ((take 1 cs ++ ds) ++ es) 0 x ≡ x ∷ (ds ++ es)
-set-first x [] ds es h = absurd (omega arith)
-set-first x (c ∷ cs) ds es h = refl
-
--- a cell before all others
-shift-row : (n : ℕ) (x : Cell) (cs row : List Cell) → row ≡ padded (cell 0 0) (suc n) cs → length row ≡ suc n → length cs ≤ n
-    → set (paste row 1 row n) 0 x ≡ padded (cell 0 0) (suc n) (x ∷ cs)
-shift-row n x cs row r full h =
-    let d : drop (1 + n) row ≡ [] = drop-of-length-le row {i = 1 + n} (omega arith) in
-    let t : take n row ≡ padded (cell 0 0) n cs = ap (take n) r ∙ padded-less n cs h in
-    let m : suc n - suc (length cs) ≡ n - length cs = omega arith in
-    set-first x row (take n row) (drop (1 + n) row) (omega arith) ∙ rw (d, append-nil, t, m)
-
-pub shift-queue : (q : Queue) (x : Cell) → q ≡ queueOf (cellsOf q) → length (q .cells) ≡ cellCount → q .len < cellCount
-    → _≡_ {A = Queue} (record { cells = set (paste (q .cells) 1 (q .cells) (cellCount - 1)) 0 x; len = q .len + 1 }) (queueOf (x ∷ cellsOf q))
-unfolding queueOf
-shift-queue q x e full h =
-    let n : q .len ≡ length (cellsOf q) = made-len q (cellsOf q) e in
-    let r = made-row q (cellsOf q) e in
-    let f : set (paste (q .cells) 1 (q .cells) (cellCount - 1)) 0 x ≡ padded (cell 0 0) cellCount (x ∷ cellsOf q) = shift-row (cellCount - 1) x (cellsOf q) (q .cells) r full (omega arith) in
-    let g : q .len + 1 ≡ suc (length (cellsOf q)) = omega arith in
-    λ i. record { cells = f i; len = g i }
+-- THE QUEUE
 
 -- another first cell
 pub first-queue : (q : Queue) (c x : Cell) (cs : List Cell) → q ≡ queueOf (c ∷ cs) → _≡_ {A = Queue} (record { cells = set (q .cells) 0 x; len = q .len }) (queueOf (x ∷ cs))

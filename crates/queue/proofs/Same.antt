@@ -57,7 +57,7 @@ module _ (M D : ℕ) (q : Queue) (m : 1 ≤ M) (s : soundb M D q ≡ true) where
   -- an insertion that is not refused for its id or its delay is the event put in
   pub insert-step : (id delay : ℕ) → eqb id filler ≡ false → hasb id (eventsOf q) ≡ false → delay ≤ D → insertOf M D q id delay ≡ placeStep M q id delay
   unfolding insertOf
-  insert-step id delay f h d = rw (s, f, h, le-ltb D delay d) (sym (place-step M D q (sound-is M D q s) id delay))
+  insert-step id delay f h d = rw (s, f, h, le-ltb D delay d) (sym (place-step M D q (sound-is M D q s) id delay m))
 
 -- What the pace says of the tick, for every queue
 

@@ -14,7 +14,7 @@ use Rattle.refusal.proofs.Small.{both-left, both-right, both-false, both-swap, 
 use Rattle.queue.specs.Limits.{cellCount, filler}
 use Rattle.queue.specs.Row.{Event, event, cell, cellsOf, queueOf, eventAt, eventsOf, eventsFrom, normal}
 use Rattle.queue.specs.Sound.{sameCells, sameb, hasb, distinctb, nearb, soundb}
-use Rattle.queue.specs.Moves.{spacedb, normb, gapsOf, rowb, zerob}
+use Rattle.queue.specs.Moves.{spacedb, normb, gapsOf, sumOf, rowb}
 use Rattle.queue.specs.declared.Cell.{Cell}
 use Rattle.queue.specs.declared.Queue.{Queue}
 use Rattle.queue.proofs.Cells.{cells-length, made-cells}
@@ -23,28 +23,55 @@ use Rattle.queue.proofs.Form.{normb-is, normb-normal}
 use Rattle.queue.proofs.Soundness.{same-queue}
 use Rattle.queue.proofs.Events.{no-filler}
 
-pub above-zero : (n : ℕ) → leb 1 n ≡ not (eqb n 0)
-above-zero n = go (eqb n 0) refl
+-- no id is above that of a filler: one that is a gap more than it belongs to a filler with gap 0
+pub empty-filler : (id gap : ℕ) → id ≤ filler → not (eqb id (gap + filler)) ≡ pick (eqb id filler) (leb 1 gap) true
+empty-filler id gap h = go (eqb id filler) refl
   where
-    go : (b : Bool) → eqb n 0 ≡ b → leb 1 n ≡ not b
-    go true q = let z : n ≡ 0 = eqb-true n 0 q in lt-leb 1 n (omega arith)
-    go false q = let z : n ≡ 0 → ⊥ = eqb-false n 0 q in le-leb 1 n (omega arith)
+    at : id ≡ filler → (b : Bool) → leb 1 gap ≡ b → not (eqb id (gap + filler)) ≡ b
+    at e true l = let k : 1 ≤ gap = leb-true 1 gap l in ap not (ne-eqb id (gap + filler) (λ d. omega arith))
+    at e false l = let k : gap < 1 = leb-false 1 gap l in ap not (eq-eqb id (gap + filler) (omega arith))
+
+    go : (b : Bool) → eqb id filler ≡ b → not (eqb id (gap + filler)) ≡ pick b (leb 1 gap) true
+    go true q = at (eqb-true id filler q) (leb 1 gap) refl
+    go false q = let d : id ≡ filler → ⊥ = eqb-false id filler q in ap not (ne-eqb id (gap + filler) (λ e. d (omega arith)))
 
 -- THE TAIL
 
--- a sum that stays zero
-pub zero-sum : (s a b : ℕ) (z : Bool) → both (eqb s 0) (both (both (eqb a 0) (eqb b 0)) z) ≡ both (eqb (s + a + b) 0) z
-zero-sum s a b z = go (eqb s 0) (eqb a 0) (eqb b 0) refl refl refl
+-- every cell is zero
+abbrev zerob : List Cell → Bool
+zerob [] = true
+zerob (c ∷ cs) = both (both (eqb (c .id) 0) (eqb (c .gap) 0)) (zerob cs)
+
+-- so it is where ids and gaps add up to 0
+zero-sum : (cs : List Cell) → zerob cs ≡ eqb (sumOf cs) 0
+zero-sum [] = refl
+zero-sum (c ∷ cs) = go (eqb (c .id) 0) (eqb (c .gap) 0) refl refl (zero-sum cs)
   where
-    go : (u v w : Bool) → eqb s 0 ≡ u → eqb a 0 ≡ v → eqb b 0 ≡ w → both u (both (both v w) z) ≡ both (eqb (s + a + b) 0) z
-    go true true true p q r =
-        let d : s ≡ 0 = eqb-true s 0 p in
-        let e : a ≡ 0 = eqb-true a 0 q in
-        let f : b ≡ 0 = eqb-true b 0 r in
-        rw (eq-eqb (s + a + b) 0 (omega arith))
-    go false v w p q r = let d : s ≡ 0 → ⊥ = eqb-false s 0 p in rw (ne-eqb (s + a + b) 0 (λ h. d (omega arith)))
-    go true false w p q r = let d : a ≡ 0 → ⊥ = eqb-false a 0 q in rw (ne-eqb (s + a + b) 0 (λ h. d (omega arith)))
-    go true true false p q r = let d : b ≡ 0 → ⊥ = eqb-false b 0 r in rw (ne-eqb (s + a + b) 0 (λ h. d (omega arith)))
+    go : (u v : Bool) → eqb (c .id) 0 ≡ u → eqb (c .gap) 0 ≡ v → zerob cs ≡ eqb (sumOf cs) 0 → both (both u v) (zerob cs) ≡ eqb (c .id + c .gap + sumOf cs) 0
+    go true true p q r =
+        let d : c .id ≡ 0 = eqb-true (c .id) 0 p in
+        let e : c .gap ≡ 0 = eqb-true (c .gap) 0 q in
+        let f : c .id + c .gap + sumOf cs ≡ sumOf cs = omega arith in
+        rw f r
+    go false v p q r = let d : c .id ≡ 0 → ⊥ = eqb-false (c .id) 0 p in sym (ne-eqb (c .id + c .gap + sumOf cs) 0 (λ h. d (omega arith)))
+    go true false p q r = let d : c .gap ≡ 0 → ⊥ = eqb-false (c .gap) 0 q in sym (ne-eqb (c .id + c .gap + sumOf cs) 0 (λ h. d (omega arith)))
+
+pub sum-append : (cs ds : List Cell) → sumOf (cs ++ ds) ≡ sumOf cs + sumOf ds
+sum-append [] ds = omega arith
+sum-append (c ∷ cs) ds = rw (sum-append cs ds) (omega arith)
+
+same-sum : (a b : ℕ) → eqb b 0 ≡ eqb (a + b) a
+same-sum a b = go (eqb b 0) refl
+  where
+    go : (u : Bool) → eqb b 0 ≡ u → u ≡ eqb (a + b) a
+    go true p = let d : b ≡ 0 = eqb-true b 0 p in sym (eq-eqb (a + b) a (omega arith))
+    go false p = let d : b ≡ 0 → ⊥ = eqb-false b 0 p in sym (ne-eqb (a + b) a (λ h. d (omega arith)))
+
+-- the cells past some are zero where they add nothing to the sum
+zero-tail : (n : ℕ) (cs : List Cell) → zerob (drop n cs) ≡ eqb (sumOf cs) (sumOf (take n cs))
+zero-tail n cs =
+    let e : sumOf (take n cs) + sumOf (drop n cs) ≡ sumOf cs = sym (sum-append (take n cs) (drop n cs)) ∙ ap sumOf (take-append-drop n cs) in
+    zero-sum (drop n cs) ∙ same-sum (sumOf (take n cs)) (sumOf (drop n cs)) ∙ rw e
 
 -- THE IDS
 
@@ -130,17 +157,19 @@ marked-more es seen id at p full small m k h = rw (has-append k es (eventAt id a
         let n : eqb id k ≡ false = ne-eqb id k (λ e. eqb-false k id q (sym e)) in
         rw n (getD-set-other seen id k true false (eqb-false k id q) ∙ m k h ∙ sym (either-false (hasb k es)))
 
--- what is known behind the cells `past`: the ids that are marked are those of their events, which are distinct, and `at` is the sum of their gaps
-pub record Scanned (past : List Cell) (seen : List Bool) (at : ℕ) : Type 0 where
+-- what is known behind the cells `past`: the ids that are marked are those of their events, which are distinct, `at` is the sum of their gaps, and
+-- with `ids` it is the sum of all
+pub record Scanned (past : List Cell) (seen : List Bool) (at ids : ℕ) : Type 0 where
   pub full : length seen ≡ idCount
   pub marked : (k : ℕ) → k < idCount → getD seen k false ≡ hasb k (eventsFrom 0 past)
   pub distinct : distinctb (eventsFrom 0 past) ≡ true
   pub sum : at ≡ gapsOf past
+  pub all : at + ids ≡ sumOf past
 
-pub scanned-none : Scanned [] (replicate idCount false) 0
-scanned-none = record { full = refl; marked = λ k h. getD-replicate idCount k false false h; distinct = refl; sum = refl }
+pub scanned-none : Scanned [] (replicate idCount false) 0 0
+scanned-none = record { full = refl; marked = λ k h. getD-replicate idCount k false false h; distinct = refl; sum = refl; all = refl }
 
-module _ (past : List Cell) (seen : List Bool) (at : ℕ) (s : Scanned past seen at) (c : Cell) (small : c .id < idCount) where
+module _ (past : List Cell) (seen : List Bool) (at ids : ℕ) (s : Scanned past seen at ids) (c : Cell) (small : c .id < idCount) where
   -- an id that is marked already
   pub scanned-twice : (rest : List Cell) → getD seen (c .id) false ≡ true → distinctb (eventsFrom 0 (past ++ (c ∷ rest))) ≡ false
   scanned-twice rest h =
@@ -153,13 +182,14 @@ module _ (past : List Cell) (seen : List Bool) (at : ℕ) (s : Scanned past seen
       go false q m = distinct-twice (eventsFrom 0 past) (event (c .id) (0 + gapsOf past + c .gap)) (eventsFrom (0 + gapsOf past + c .gap) rest) m
 
   -- and one that is not
-  pub scanned-more : getD seen (c .id) false ≡ false → Scanned (past ++ (c ∷ [])) (set seen (c .id) (not (eqb (c .id) filler))) (at + c .gap)
+  pub scanned-more : getD seen (c .id) false ≡ false → Scanned (past ++ (c ∷ [])) (set seen (c .id) (not (eqb (c .id) filler))) (at + c .gap) (ids + c .id)
   scanned-more h =
       record {
         full = length-set seen (c .id) (not (eqb (c .id) filler)) ∙ s .full;
         marked = rw (one, append-nil) (marked-more (eventsFrom 0 past) seen (c .id) (0 + gapsOf past + c .gap) (proper-events 0 past) (s .full) small (s .marked));
         distinct = rw (one, append-nil) (go (eqb (c .id) filler));
         sum = rw (gaps-append past (c ∷ [])) (omega (arith, s .sum));
+        all = rw (sum-append past (c ∷ [])) (omega (arith, s .all));
       }
     where
       one : eventsFrom 0 (past ++ (c ∷ [])) ≡ eventsFrom 0 past ++ (eventAt (c .id) (0 + gapsOf past + c .gap) ++ [])
@@ -215,11 +245,11 @@ same-tail q full fits =
     ∙ same-append (cellsOf q) rest (replicate (cellCount - length (cellsOf q)) (cell 0 0))
     ∙ same-zero (cellCount - length (cellsOf q)) rest (simp length-drop (omega arith)))
 
--- soundness is what the passes over the row and over the tail find
+-- soundness is what the pass over the row and the two sums find
 pub sound-scan : (M D : ℕ) (q : Queue) → 1 ≤ M → length (q .cells) ≡ cellCount → q .len ≤ cellCount
-    → soundb M D q ≡ both (rowb M D (cellsOf q)) (zerob (drop (q .len) (q .cells)))
-unfolding soundb rowb
-sound-scan M D q m full fits = rw (le-leb (q .len) cellCount fits) (go (normb M false (cellsOf q)) (sameb q (queueOf (normal M 0 (eventsOf q)))) refl refl)
+    → soundb M D q ≡ both (rowb M D (cellsOf q)) (eqb (sumOf (q .cells)) (sumOf (cellsOf q)))
+unfolding soundb rowb cellsOf
+sound-scan M D q m full fits = rw (← zero-tail (q .len) (q .cells), le-leb (q .len) cellCount fits) (go (normb M false (cellsOf q)) (sameb q (queueOf (normal M 0 (eventsOf q)))) refl refl)
   where
     go : (a b : Bool) → normb M false (cellsOf q) ≡ a → sameb q (queueOf (normal M 0 (eventsOf q))) ≡ b
         → both b (both (distinctb (eventsOf q)) (nearb D (eventsOf q)))

@@ -6,7 +6,8 @@ use Prim.Native.Nat.{ℕ, zero, suc, _+_, _-_, _*_, _/_, _≤_, _<_}
 use native.Mathlib.Omega.{arith}
 use native.Mathlib.Nat.{zero-mul, suc-mul}
 use lib.Dec.{eqb}
-use lib.ListN.{length, getD, take, drop, set, replicate}
+use lib.ListN.{length, getD, take, drop, set, replicate, length-drop}
+use lib.Seq.{length-take-le, getD-append-add, getD-drop}
 use borrow.Author.Tests.{eq-eqb, ne-eqb, lt-ltb, le-ltb, eqb-true, eqb-false}
 use Rattle.refusal.specs.Small.{pick, both, padded}
 use Rattle.queue.specs.Limits.{cellCount, filler}
@@ -34,6 +35,14 @@ less-still (c ∷ cs) h = let e : c .gap ≡ c .gap - 1 = omega arith in λ i. (
 -- the array in which the first j elements have been moved one place down
 abbrev pub down : ℕ → List Cell → List Cell
 down j xs = take j (drop 1 xs) ++ drop j xs
+
+-- those from there on stand where they stood
+pub down-read : (xs : List Cell) (i : ℕ) → 1 ≤ i → i < length xs → getD (down (i - 1) xs) i (cell 0 0) ≡ getD xs i (cell 0 0)
+down-read xs i p h =
+    let j = i - 1 in
+    let n : length (take j (drop 1 xs)) ≡ j = length-take-le j (drop 1 xs) (rw length-drop (omega arith)) in
+    let e : j + 1 ≡ i = omega arith in
+    rw (n, e) at (getD-append-add (take j (drop 1 xs)) (drop j xs) 1 (cell 0 0) ∙ getD-drop j xs 1 (cell 0 0))
 
 down-move : (j : ℕ) (c : Cell) (ys : List Cell) → j < length ys
     → set (take j ys ++ drop j (c ∷ ys)) j (getD (c ∷ ys) (suc j) (cell 0 0)) ≡ take (suc j) ys ++ drop (suc j) (c ∷ ys)

@@ -3,12 +3,14 @@
 use mathlib.Core.Path.{_≡_, refl}
 use mathlib.Core.Bool.{Bool, true, false}
 use mathlib.Core.Logic.{_≢_}
+use mathlib.Core.List.{_++_}
 use Prim.Native.Nat.{ℕ}
 use lib.Dec.{eqb}
+use lib.ListN.{length, drop}
 use Rattle.refusal.specs.Small.{pick}
 use Rattle.refusal.specs.Refusal.{none, firstOf}
 use Rattle.refusal.specs.declared.Refusal.{Refusal}
-use Rattle.queue.specs.Row.{event, cellsOf, queueOf, eventsOf}
+use Rattle.queue.specs.Row.{event, cellsOf, eventsOf}
 use Rattle.queue.specs.Calls.{formed, withEvent, withoutEvent, distanceOf, earlier, dueId, withoutDue, later}
 use Rattle.queue.specs.Calls.{insertChecks, findChecks, clockChecks, takeChecks, pushChecks}
 use Rattle.queue.specs.Calls.{changed, acceptedWith, taken, takenWith, leftAfter, leftWith}
@@ -68,4 +70,6 @@ module _ (M D : ℕ) (q : Queue) where
 
 pub place-unchanged : (M : ℕ) (q : Queue) (id delay : ℕ) → placeStep M q id delay .refusal .number ≢ 0 → placeStep M q id delay .queue ≡ q
 unfolding placeStep
-place-unchanged M q id delay = changed-kept (firstOf (placeChecks M q id delay)) q (queueOf (placeCells M id delay (cellsOf q)))
+place-unchanged M q id delay =
+    let row = placeCells M id delay (cellsOf q) in
+    changed-kept (firstOf (placeChecks M q id delay)) q (record { cells = row ++ drop (length row) (q .cells); len = length row })

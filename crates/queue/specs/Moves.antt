@@ -2,12 +2,13 @@
 use mathlib.Core.Path.{_≡_}
 use mathlib.Core.Bool.{Bool, true, false, not}
 use mathlib.Core.List.{List, [], _∷_, _++_}
-use Prim.Native.Nat.{ℕ, _+_, _-_, _*_, _≤_, _<_}
+use Prim.Native.Nat.{ℕ, zero, suc, _+_, _-_, _*_, _≤_, _<_}
 use lib.Dec.{leb, ltb, eqb}
-use lib.ListN.{length, take, drop, getD}
+use lib.ListN.{take, drop, getD}
+use lib.Seq.{sets}
 use Rattle.refusal.specs.Small.{pick, both}
-use Rattle.queue.specs.Limits.{maxGap, cellCount, filler}
-use Rattle.queue.specs.Row.{Event, event, cell, cellsOf, queueOf, eventsOf, eventsFrom, cellsFor}
+use Rattle.queue.specs.Limits.{maxGap, filler}
+use Rattle.queue.specs.Row.{cell, cellsOf, eventsOf, eventsFrom, fillersFor, cellsFor}
 use Rattle.queue.specs.Sound.{hasb, distinctb}
 use Rattle.queue.specs.Calls.{distanceOf}
 use Rattle.queue.specs.Steps.{regrouped, placeCells}
@@ -16,6 +17,7 @@ use Rattle.queue.specs.declared.Queue.{Queue}
 use Rattle.queue.specs.declared.Walk.{Walk}
 use Rattle.queue.specs.declared.Next.{Next}
 use Rattle.queue.specs.declared.Found.{Found}
+use Rattle.queue.specs.declared.Chain.{Chain}
 
 -- a test of the normal form, cell by cell; the flag says that a filler stands before
 abbrev pub spacedb : ℕ → Bool → Cell → Bool
@@ -35,10 +37,10 @@ gapsOf (c ∷ cs) = c .gap + gapsOf cs
 unfoldable pub rowb : ℕ → ℕ → List Cell → Bool
 rowb M D cs = both (normb M false cs) (both (distinctb (eventsFrom 0 cs)) (leb (gapsOf cs) D))
 
--- every cell is zero
-abbrev pub zerob : List Cell → Bool
-zerob [] = true
-zerob (c ∷ cs) = both (both (eqb (c .id) 0) (eqb (c .gap) 0)) (zerob cs)
+-- the sum of the ids and the gaps
+abbrev pub sumOf : List Cell → ℕ
+sumOf [] = 0
+sumOf (c ∷ cs) = c .id + c .gap + sumOf cs
 
 -- the cells from a place up to another
 abbrev pub part : ℕ → ℕ → List Cell → List Cell
@@ -77,9 +79,37 @@ abbrev pub nextOf : ℕ → ℕ → List Cell → Next
 nextOf t i [] = next filler t i
 nextOf t i (c ∷ cs) = pick (eqb (c .id) filler) (nextOf (t + c .gap) (i + 1) cs) (next (c .id) (t + c .gap) (i + 1))
 
+-- the cells of a gap g: how many, and the gap of the first
+unfoldable pub chainFor : ℕ → ℕ → Chain
+chainFor M g = record { cells = fillersFor M g + 1; gap = g - fillersFor M g * M }
+
+-- those of the next event, counted from u; none where there is no event
+unfoldable pub chainTo : ℕ → ℕ → Next → Chain
+chainTo M u n = pick (eqb (n .id) filler) (record { cells = 0; gap = 0 }) (chainFor M (n .at - u))
+
+-- a cell of a chain with so many behind it: the last is the event
+abbrev pub linkOf : ℕ → ℕ → ℕ → Cell
+linkOf behind id gap = cell (pick (eqb behind 0) id filler) gap
+
+-- k cells of a chain: the first has gap r, and each other gap M
+abbrev pub links : ℕ → ℕ → ℕ → ℕ → List Cell
+links M zero id r = []
+links M (suc k) id r = linkOf k id r ∷ links M k id M
+
+abbrev pub linksOf : ℕ → Chain → ℕ → List Cell
+linksOf M c id = links M (c .cells) id (c .gap)
+
 -- the next event, counted from u, and all cells behind it
 unfoldable pub behindOf : ℕ → ℕ → Next → List Cell → List Cell
-behindOf M u n cs = pick (eqb (n .id) filler) [] (cellsFor M (n .at - u) (n .id) ++ drop (n .behind) cs)
+behindOf M u n cs = linksOf M (chainTo M u n) (n .id) ++ drop (n .behind) cs
+
+-- the queue with this array and this length
+abbrev pub queueWith : List Cell → ℕ → Queue
+queueWith cells len = record { cells = cells; len = len }
+
+-- the cells from a place on, stored from another place on
+unfoldable pub movedTo : ℕ → ℕ → Queue → Queue
+movedTo from to q = queueWith (sets (q .cells) to (drop from (cellsOf q))) (to + (q .len - from))
 
 -- the cells without an event, as `placeFrom` has them with one more
 abbrev pub removeFrom : ℕ → ℕ → ℕ → ℕ → List Cell → List Cell → List Cell
@@ -112,3 +142,8 @@ nowhereFound = record { found = false; start = 0; last = 0; behind = 0; at = 0 }
 abbrev pub pushCells : ℕ → List Cell → List Cell
 pushCells M [] = []
 pushCells M (c ∷ cs) = pick (eqb (c .gap) M) (cell filler 1 ∷ c ∷ cs) (cell (c .id) (c .gap + 1) ∷ cs)
+
+-- each reach above 0, from the id i on, is flagged
+abbrev pub seenb : List ℕ → ℕ → List Bool → Bool
+seenb [] i flags = true
+seenb (r ∷ reach) i flags = both (pick (ltb 0 r) (getD flags i false) true) (seenb reach (suc i) flags)

@@ -1,6 +1,6 @@
 -- The total steps on a row: an outcome for every queue, sound or not, with no check of the whole. On a sound queue they are the calls
 -- (proofs/Same.antt). A scheduler that has checked its state once goes by these.
-use mathlib.Core.Bool.{Bool, true, false}
+use mathlib.Core.Bool.{Bool}
 use mathlib.Core.List.{List, [], _∷_, _++_}
 use Prim.Native.Nat.{ℕ, _+_, _-_}
 use lib.Dec.{leb, ltb, eqb}
@@ -9,7 +9,7 @@ use Rattle.refusal.specs.Small.{pick, both}
 use Rattle.refusal.specs.Numbers.{noRoom, unsound}
 use Rattle.refusal.specs.Refusal.{check, firstOf}
 use Rattle.queue.specs.Limits.{cellCount, filler}
-use Rattle.queue.specs.Row.{cell, cellsOf, queueOf, cellsFor}
+use Rattle.queue.specs.Row.{cell, cellsOf, cellsFor}
 use Rattle.queue.specs.Calls.{changed}
 use Rattle.queue.specs.declared.Cell.{Cell}
 use Rattle.queue.specs.declared.Queue.{Queue}
@@ -65,8 +65,9 @@ placeFrom M id d u t held (c ∷ cs) =
 abbrev pub placeCells : ℕ → ℕ → ℕ → List Cell → List Cell
 placeCells M id d cs = placeFrom M id d 0 0 [] cs
 
--- an event put in without a test of what the queue holds: only the room is looked at
+-- an event put in without a test of what the queue holds: only the room is looked at, and the array past the row stays as it is
 unfoldable pub placeStep : ℕ → Queue → ℕ → ℕ → Changed
 placeStep M q id d =
     let row = placeCells M id d (cellsOf q) in
-    changed (firstOf (check unsound (ltb cellCount (q .len)) ∷ check noRoom (ltb cellCount (length row)) ∷ [])) q (queueOf row)
+    changed (firstOf (check unsound (ltb cellCount (q .len)) ∷ check noRoom (ltb cellCount (length row)) ∷ [])) q
+    (record { cells = row ++ drop (length row) (q .cells); len = length row })

@@ -2,19 +2,21 @@
 // calls, the same calls on a queue that is lent, the total steps for a scheduler that has checked its state, and the private functions.
 use refusal::Refusal;
 ghost use mathlib.Core.Path.{_≡_};
-ghost use mathlib.Core.List.{[], _∷_, _++_};
+ghost use mathlib.Core.List.{[], _∷_};
 ghost use mathlib.Core.Bool.{true, false};
 ghost use Prim.Native.Nat.{_+_, _-_, _*_, _≤_, _<_};
-ghost use lib.Dec.{ltb, eqb};
-ghost use lib.ListN.{length, take, drop, getD};
-ghost use Rattle.refusal.specs.Small.{both};
+ghost use lib.Dec.{leb, ltb, eqb};
+ghost use lib.ListN.{drop, getD, replicate};
+ghost use lib.Seq.{sets};
+ghost use Rattle.refusal.specs.Small.{pick, both};
 ghost use Rattle.queue.specs.Limits.{maxGap, cellCount, longest, filler};
-ghost use Rattle.queue.specs.Row.{cell, cellsOf, queueOf, fillersFor, cellsFor};
+ghost use Rattle.queue.specs.Row.{cell, cellsOf, queueOf, fillersFor};
 ghost use Rattle.queue.specs.Sound.{soundb};
+ghost use Rattle.queue.specs.Holds.{holdsb};
 ghost use Rattle.queue.specs.Calls.{acceptedWith, refusedWith, insertOf, removeOf, timeLeftOf, clockOf, takeOf, pushBackOf};
 ghost use Rattle.queue.specs.Lent.{tookOf, apartOf};
 ghost use Rattle.queue.specs.Steps.{firstCell, dueStep, nearerStep, restStep, tickStep, paceStep, placeStep};
-ghost use Rattle.queue.specs.Moves.{spacedb, rowb, zerob, gapsOf, part, passOf, Passed, nextOf, behindOf, Sought, nowhereFound, pushCells};
+ghost use Rattle.queue.specs.Moves.{seenb, spacedb, gapsOf, sumOf, passOf, Passed, nextOf, Sought, nowhereFound, chainFor, chainTo, linkOf, linksOf, queueWith, movedTo, pushCells};
 
 // An event (id 0 to 254) or a filler (id 255), with its gap to the cell before it. The first gap counts from now.
 pub struct Cell {
@@ -51,11 +53,17 @@ pub struct Left {
 impl Queue {
     pub const MAX_GAP: u32 = 65_535;
 
+    // The same as a cell has it.
+    const FULL: u16 = Queue::MAX_GAP as u16;
+
     pub const CELLS: usize = 32;
 
     pub const LONGEST: u32 = 1_000_000;
 
     pub const FILLER: u8 = 255;
+
+    // How many ids `holds` looks for: a table's places.
+    pub const HELD: usize = 8;
 
     // How many ids there are, the filler's included.
     const IDS: usize = 256;
@@ -75,13 +83,37 @@ impl Queue {
 pub fn sound(q: Queue) -> bool
     ensures { λ r. ⌜ r ≡ soundb maxGap longest q ⌝ }
 {
-    if Queue::CELLS < q.len {
+    let n = q.len;
+    if Queue::CELLS < n {
         return false;
     }
-    if !row_sound(q) {
+    let mut seen = [false; Queue::IDS];
+    let mut filler = false;
+    let mut at: u32 = 0;
+    let mut ids: u32 = 0;
+    let mut i: usize = 0;
+    while i < n {
+        let c = q.cells[i];
+        let id = c.id as usize;
+        if !spaced(c, filler) {
+            return false;
+        }
+        if seen[id] {
+            return false;
+        }
+        filler = c.id == Queue::FILLER;
+        seen[id] = !filler;
+        at = at + (c.gap as u32);
+        ids = ids + (c.id as u32);
+        i = i + 1;
+    }
+    if filler {
         return false;
     }
-    tail_zero(q)
+    if Queue::LONGEST < at {
+        return false;
+    }
+    total(q) == at + ids
 }
 
 // The event stands at that distance, behind all that are due at the same time.
@@ -116,8 +148,10 @@ pub fn remove(q: Queue, id: u8) -> Changed
         return refuse(Refusal::NO_SUCH_EVENT, q);
     }
     let n = next_event(q, f.behind, f.at);
-    let head = copied(Queue::empty(), q, 0, f.start);
-    accept(with_tail(head, q, n, f.last))
+    let then = chain_to(n, f.last);
+    let rest = down(q, n.behind, f.start + then.cells);
+    let clear = cleared(rest, q.len);
+    accept(linked(clear, f.start, then, n.id))
 }
 
 pub fn time_left(q: Queue, id: u8) -> Left
@@ -194,6 +228,62 @@ pub fn push_back(q: Queue) -> Changed
         return refuse(Refusal::AT_LONGEST, q);
     }
     accept(pushed(q))
+}
+
+// Whether the queue is sound and holds exactly what it is to hold: for each id below 8 an event 1 to its reach away, and none where the reach is 0.
+pub fn holds(q: Queue, reach: [u32; Queue::HELD]) -> bool
+    ensures { λ r. ⌜ r ≡ holdsb maxGap longest reach q ⌝ }
+{
+    if !sound(q) {
+        return false;
+    }
+    let n = q.len;
+    let mut seen = [false; Queue::IDS];
+    let mut at: u32 = 0;
+    let mut i: usize = 0;
+    while i < n {
+        let c = q.cells[i];
+        at = at + (c.gap as u32);
+        if !in_reach(c.id, at, reach) {
+            return false;
+        }
+        seen[c.id as usize] = true;
+        i = i + 1;
+    }
+    all_seen(seen, reach)
+}
+
+// A filler, or an event that is 1 to its reach away.
+fn in_reach(id: u8, at: u32, reach: [u32; Queue::HELD]) -> bool
+    ensures { λ r. ⌜ r ≡ pick (eqb id filler) true (both (ltb 0 at) (leb at (getD reach id 0))) ⌝ }
+{
+    if id == Queue::FILLER {
+        return true;
+    }
+    if at == 0 {
+        return false;
+    }
+    let k = id as usize;
+    if Queue::HELD <= k {
+        return false;
+    }
+    at <= reach[k]
+}
+
+// Each reach above 0 has been seen.
+fn all_seen(seen: [bool; Queue::IDS], reach: [u32; Queue::HELD]) -> bool
+    ensures { λ r. ⌜ r ≡ seenb reach 0 seen ⌝ }
+{
+    let mut i: usize = 0;
+    while i < Queue::HELD {
+        if 0 < reach[i] {
+            if !seen[i] {
+                return false;
+            }
+        }
+        i = i + 1;
+    }
+    true
 }
 
 // THE SAME ON A QUEUE THAT IS LENT, for a kernel that holds one queue at a fixed address
@@ -308,7 +398,7 @@ pub fn without_first(q: Queue) -> Queue
     let mut next = q;
     let mut i: usize = 1;
     while i < Queue::CELLS {
-        let c = q.cells[i];
+        let c = next.cells[i];
         next.cells[i - 1] = c;
         i = i + 1;
     }
@@ -344,13 +434,16 @@ pub fn placed(q: Queue, id: u8, delay: Distance) -> Changed
     let d = delay.0;
     let w = passed(q, d);
     let n = next_event(q, w.next, w.at);
-    let gap = d - w.last;
-    if Queue::CELLS < w.start + cells_for(gap) + tail_cells(q, n, d) {
+    let own = chain_of(d - w.last);
+    let then = chain_to(n, d);
+    let at = w.start + own.cells;
+    let to = at + then.cells;
+    if Queue::CELLS < to + (q.len - n.behind) {
         return refuse(Refusal::NO_ROOM, q);
     }
-    let head = copied(Queue::empty(), q, 0, w.start);
-    let more = put(head, id, gap);
-    accept(with_tail(more, q, n, d))
+    let rest = moved(q, n.behind, to);
+    let more = linked(rest, at, then, n.id);
+    accept(linked(more, w.start, own, id))
 }
 
 // ANSWERS
@@ -373,7 +466,7 @@ fn refuse(number: u8, q: Queue) -> Changed
     }
 }
 
-// SOUNDNESS: one pass over the cells, one over the tail
+// SOUNDNESS: one pass over the cells in use, and one sum over all
 
 // Whether a cell's gap is one that the normal form has there.
 fn spaced(c: Cell, behind_filler: bool) -> bool
@@ -383,55 +476,22 @@ fn spaced(c: Cell, behind_filler: bool) -> bool
     if behind_filler {
         return gap == Queue::MAX_GAP;
     }
-    if c.id == Queue::FILLER {
-        return gap != 0;
-    }
-    true
+    // Only a filler with gap 0 has this id.
+    (c.id as u32) != gap + (Queue::FILLER as u32)
 }
 
-// The row is in normal form, its ids differ, and it ends in reach.
-fn row_sound(q: Queue) -> bool
-    requires { ⌜ q .len ≤ cellCount ⌝ }
-    ensures { λ r. ⌜ r ≡ rowb maxGap longest (cellsOf q) ⌝ }
-{
-    let n = q.len;
-    let mut seen = [false; Queue::IDS];
-    let mut filler = false;
-    let mut at: u32 = 0;
-    let mut i: usize = 0;
-    while i < n {
-        let c = q.cells[i];
-        let id = c.id as usize;
-        if !spaced(c, filler) {
-            return false;
-        }
-        if seen[id] {
-            return false;
-        }
-        filler = c.id == Queue::FILLER;
-        seen[id] = !filler;
-        at = at + (c.gap as u32);
-        i = i + 1;
-    }
-    if filler {
-        return false;
-    }
-    at <= Queue::LONGEST
-}
-
-// The cells past the last are zero.
-fn tail_zero(q: Queue) -> bool
-    requires { ⌜ q .len ≤ cellCount ⌝ }
-    ensures { λ r. ⌜ r ≡ zerob (drop (q .len) (q .cells)) ⌝ }
+// The sum of all ids and gaps, those past the last too: it is that of the cells in use where the others are zero.
+fn total(q: Queue) -> u32
+    ensures { λ r. ⌜ r ≡ sumOf (q .cells) ⌝ }
 {
     let mut sum: u32 = 0;
-    let mut i = q.len;
+    let mut i: usize = 0;
     while i < Queue::CELLS {
         let c = q.cells[i];
         sum = sum + (c.id as u32) + (c.gap as u32);
         i = i + 1;
     }
-    sum == 0
+    sum
 }
 
 // WALKING
@@ -589,7 +649,23 @@ fn end_of(q: Queue) -> u32
     at
 }
 
-// MOVING: each cell of the answer is written once
+// MOVING: the cells before a change stay, and each cell behind it is stored once
+
+// The cells of one gap: how many they are, and the gap of the first. Each other has the largest gap.
+struct Chain {
+    cells: usize,
+    gap: u16,
+}
+
+fn chain_of(gap: u32) -> Chain
+    ensures { λ r. ⌜ r ≡ chainFor maxGap gap ⌝ }
+{
+    let k = fillers(gap);
+    Chain {
+        cells: (k as usize) + 1,
+        gap: (gap - k * Queue::MAX_GAP) as u16,
+    }
+}
 
 fn fillers(gap: u32) -> u32
     ensures { λ r. ⌜ r ≡ fillersFor maxGap gap ⌝ }
@@ -600,82 +676,105 @@ fn fillers(gap: u32) -> u32
     (gap - 1) / Queue::MAX_GAP
 }
 
-// How many cells a gap needs.
-fn cells_for(gap: u32) -> usize
-    ensures { λ r. ⌜ r ≡ fillersFor maxGap gap + 1 ⌝ }
+// Those of the next event, counted from u; none where there is no event.
+fn chain_to(n: Next, u: u32) -> Chain
+    requires { ⌜ (eqb (n .id) filler ≡ false → u ≤ n .at) ⌝ }
+    ensures { λ r. ⌜ r ≡ chainTo maxGap u n ⌝ }
 {
-    (fillers(gap) as usize) + 1
+    if n.id == Queue::FILLER {
+        return Chain { cells: 0, gap: 0 };
+    }
+    chain_of(n.at - u)
 }
 
-// The cells of one gap more.
-fn put(q: Queue, id: u8, gap: u32) -> Queue
-    requires { ⌜ q ≡ queueOf (cellsOf q) ⌝ }
-    requires { ⌜ q .len + fillersFor maxGap gap < cellCount ⌝ }
-    ensures { λ r. ⌜ r ≡ queueOf (cellsOf q ++ cellsFor maxGap gap id) ⌝ }
+// A cell of a chain, with so many behind it: the last is the event.
+fn link(behind: usize, id: u8, gap: u16) -> Cell
+    ensures { λ r. ⌜ r ≡ linkOf behind id gap ⌝ }
+{
+    if behind == 0 {
+        return Cell { id: id, gap: gap };
+    }
+    Cell {
+        id: Queue::FILLER,
+        gap: gap,
+    }
+}
+
+// The cells of a chain, stored from a place on.
+fn linked(q: Queue, at: usize, chain: Chain, id: u8) -> Queue
+    requires { ⌜ at + chain .cells ≤ cellCount ⌝ }
+    ensures { λ r. ⌜ r ≡ queueWith (sets (q .cells) at (linksOf maxGap chain id)) (q .len) ⌝ }
 {
     let mut next = q;
-    let mut k = fillers(gap);
-    let mut g = gap - k * Queue::MAX_GAP;
+    let mut p = at;
+    let mut k = chain.cells;
+    let mut gap = chain.gap;
     while 0 < k {
-        let at = next.len;
-        next.cells[at] = Cell {
-            id: Queue::FILLER,
-            gap: g as u16,
-        };
-        next.len = at + 1;
-        g = Queue::MAX_GAP;
         k = k - 1;
+        let c = link(k, id, gap);
+        next.cells[p] = c;
+        gap = Queue::FULL;
+        p = p + 1;
     }
-    let at = next.len;
-    next.cells[at] = Cell {
-        id: id,
-        gap: g as u16,
-    };
-    next.len = at + 1;
     next
 }
 
-// The cells of a queue from a place up to another, behind those of another.
-fn copied(out: Queue, q: Queue, from: usize, to: usize) -> Queue
-    requires { ⌜ out ≡ queueOf (cellsOf out) ⌝ }
-    requires { ⌜ (from ≤ to) × (to ≤ q .len) × (q .len ≤ cellCount) × (out .len + (to - from) ≤ cellCount) ⌝ }
-    ensures { λ r. ⌜ r ≡ queueOf (cellsOf out ++ part from to (cellsOf q)) ⌝ }
+// The cells from a place on, moved to another: from the last on where they go up, from the first on where they go down.
+fn moved(q: Queue, from: usize, to: usize) -> Queue
+    requires { ⌜ (from ≤ q .len) × (q .len ≤ cellCount) × (to + (q .len - from) ≤ cellCount) ⌝ }
+    ensures { λ r. ⌜ r ≡ movedTo from to q ⌝ }
 {
-    let mut next = out;
+    if from < to {
+        return up(q, from, to);
+    }
+    down(q, from, to)
+}
+
+fn up(q: Queue, from: usize, to: usize) -> Queue
+    requires { ⌜ (from ≤ q .len) × (from ≤ to) × (to + (q .len - from) ≤ cellCount) ⌝ }
+    ensures { λ r. ⌜ r ≡ movedTo from to q ⌝ }
+{
+    let by = to - from;
+    let mut next = q;
+    let mut i = q.len;
+    while from < i {
+        i = i - 1;
+        let c = next.cells[i];
+        next.cells[i + by] = c;
+    }
+    next.len = q.len + by;
+    next
+}
+
+fn down(q: Queue, from: usize, to: usize) -> Queue
+    requires { ⌜ (to ≤ from) × (from ≤ q .len) × (q .len ≤ cellCount) ⌝ }
+    ensures { λ r. ⌜ r ≡ movedTo from to q ⌝ }
+{
+    let mut next = q;
+    let mut p = to;
     let mut i = from;
+    while i < q.len {
+        let c = next.cells[i];
+        next.cells[p] = c;
+        p = p + 1;
+        i = i + 1;
+    }
+    next.len = p;
+    next
+}
+
+// The cells past the last, cleared up to a place.
+fn cleared(q: Queue, to: usize) -> Queue
+    requires { ⌜ (q .len ≤ to) × (to ≤ cellCount) ⌝ }
+    ensures { λ r. ⌜ r ≡ queueWith (sets (q .cells) (q .len) (replicate (to - q .len) (cell 0 0))) (q .len) ⌝ }
+{
+    let mut next = q;
+    let mut i = q.len;
     while i < to {
-        let c = q.cells[i];
-        let at = next.len;
-        next.cells[at] = c;
-        next.len = at + 1;
+        next.cells[i] = Cell { id: 0, gap: 0 };
         i = i + 1;
     }
     next
-}
-
-// How many cells the next event and what stands behind it need, counted from u.
-fn tail_cells(q: Queue, n: Next, u: u32) -> usize
-    requires { ⌜ (q .len ≤ cellCount) × (n .behind ≤ q .len) × (eqb (n .id) filler ≡ false → u ≤ n .at) ⌝ }
-    ensures { λ r. ⌜ r ≡ length (behindOf maxGap u n (cellsOf q)) ⌝ }
-{
-    if n.id == Queue::FILLER {
-        return 0;
-    }
-    cells_for(n.at - u) + (q.len - n.behind)
-}
-
-// The next event, counted from u, and what stands behind it, behind the cells of another queue.
-fn with_tail(out: Queue, q: Queue, n: Next, u: u32) -> Queue
-    requires { ⌜ out ≡ queueOf (cellsOf out) ⌝ }
-    requires { ⌜ (q .len ≤ cellCount) × (n .behind ≤ q .len) × (eqb (n .id) filler ≡ false → u ≤ n .at) ⌝ }
-    requires { ⌜ out .len + length (behindOf maxGap u n (cellsOf q)) ≤ cellCount ⌝ }
-    ensures { λ r. ⌜ r ≡ queueOf (cellsOf out ++ behindOf maxGap u n (cellsOf q)) ⌝ }
-{
-    if n.id == Queue::FILLER {
-        return out;
-    }
-    let more = put(out, n.id, n.at - u);
-    copied(more, q, n.behind, q.len)
 }
 
 // PUSHING BACK
@@ -696,19 +795,11 @@ fn behind_filler(q: Queue) -> Queue
     requires { ⌜ (q ≡ queueOf (cellsOf q)) × (q .len < cellCount) ⌝ }
     ensures { λ r. ⌜ r ≡ queueOf (cell filler 1 ∷ cellsOf q) ⌝ }
 {
-    let n = q.len;
-    let mut next = q;
-    let mut i: usize = 1;
-    while i < Queue::CELLS {
-        let c = q.cells[i - 1];
-        next.cells[i] = c;
-        i = i + 1;
-    }
+    let mut next = up(q, 0, 1);
     next.cells[0] = Cell {
         id: Queue::FILLER,
         gap: 1,
     };
-    next.len = n + 1;
     next
 }
 

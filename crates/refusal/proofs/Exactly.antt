@@ -22,7 +22,8 @@ abbrev pub Other : ℕ → List Check → Type 0
 Other n [] = n ≡ 0 → ⊥
 Other n (c ∷ cs) = (c .refusal .number ≡ n → ⊥) × Other n cs
 
-given-by : (n : ℕ) (cs : List Check) → Other n cs → firstOf cs .number ≡ n → ⊥
+-- then it is not given
+pub given-by : (n : ℕ) (cs : List Check) → Other n cs → firstOf cs .number ≡ n → ⊥
 given-by n [] o e = o (sym e)
 given-by n (c ∷ cs) o e = go (c .holds) e (given-by n cs (o .1))
   where
@@ -130,7 +131,7 @@ abbrev pub placelessb : List Check → Bool
 placelessb [] = true
 placelessb (c ∷ cs) = both (eqb (c .refusal .place) 0) (placelessb cs)
 
-other : (n : ℕ) (cs : List Check) → otherb n cs ≡ true → Other n cs
+pub other : (n : ℕ) (cs : List Check) → otherb n cs ≡ true → Other n cs
 other n [] h = eqb-false n 0 (not-true (eqb n 0) h)
 other n (c ∷ cs) h =
     (eqb-false (c .refusal .number) n (not-true (eqb (c .refusal .number) n) (both-left _ _ h)), other n cs (both-right (not (eqb (c .refusal .number) n)) _ h))
@@ -140,7 +141,7 @@ numbered [] h = tt
 numbered (c ∷ cs) h =
     (eqb-false (c .refusal .number) 0 (not-true (eqb (c .refusal .number) 0) (both-left _ _ h)), numbered cs (both-right (not (eqb (c .refusal .number) 0)) _ h))
 
-at-place : (cs : List Check) (k : ℕ) → otherb (theCheck cs k .refusal .number) (drop (suc k) cs) ≡ true → take k cs ++ (theCheck cs k ∷ drop (suc k) cs) ≡ cs
+pub at-place : (cs : List Check) (k : ℕ) → otherb (theCheck cs k .refusal .number) (drop (suc k) cs) ≡ true → take k cs ++ (theCheck cs k ∷ drop (suc k) cs) ≡ cs
 at-place [] k h = contrary h refl
 at-place (c ∷ cs) zero h = refl
 at-place (c ∷ cs) (suc k) h = ap {B = List Check} (λ l. c ∷ l) (at-place cs k h)

@@ -1,3 +1,5 @@
 pub mod Small
+pub mod Rows
 pub mod Exactly
+pub mod Joined
 pub mod Outcome

@@ -1,2 +1,10 @@
 pub mod Parsing
 pub mod Writing
+pub mod Parsed
+pub mod Records
+pub mod Accepted
+pub mod Origins
+pub mod Refusals
+pub mod Unchanged
+pub mod RoundTrip
+pub mod OneOutcome

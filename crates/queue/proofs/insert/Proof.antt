@@ -1,6 +1,7 @@
 -- `queue::insert` meets its contract: each test is one of the definition's, and on a sound queue `placed` is the last of them and the outcome (`place-step`).
 use mathlib.Core.Path.{_≡_, sym, _∙_}
 use mathlib.Core.Bool.{true, false}
+use native.Mathlib.Omega.{arith}
 use borrow.Author.Needs.{needs}
 use borrow.Author.Tests.{eq-eqb, ne-eqb, lt-ltb, le-ltb, not-true, not-false}
 use lib.Dec.{eqb}
@@ -76,7 +77,7 @@ returns-5 c =
     let f = e .before in
     let s = f .before .before .before .before in
     rw (known1 (f .before .before), known2 (f .before), known3 e, le-ltb longest (s .args .delay .0) (c .before .if4 .left))
-    (c .placed .ensures ∙ place-step maxGap longest (s .args .q) (is-sound (f .before .before)) (s .args .id) (s .args .delay .0))
+    (c .placed .ensures ∙ place-step maxGap longest (s .args .q) (is-sound (f .before .before)) (s .args .id) (s .args .delay .0) (omega arith))
 
 pub insert-spec : {M : Type 1} → statement M
 insert-spec =

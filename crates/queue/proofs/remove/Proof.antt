@@ -2,20 +2,23 @@
 -- before, and those behind the removed one counted from there. On a sound queue that is the normal form of the other events (`remove-sound`).
 use mathlib.Core.Path.{_≡_, sym, ap, _∙_}
 use mathlib.Core.Bool.{true}
-use mathlib.Core.List.{[], _++_}
-use Prim.Native.Nat.{_≤_}
+use mathlib.Core.List.{List, _++_, append-assoc}
+use Prim.Native.Nat.{_+_, _-_, _≤_}
 use native.Mathlib.Omega.{arith}
 use borrow.Author.Needs.{needs}
 use borrow.Author.Tests.{not-true, not-false}
-use lib.ListN.{take, length-append}
+use lib.ListN.{length, take, drop, replicate, length-append, length-drop}
+use lib.Seq.{length-take-le, sets}
 use Rattle.queue.specs.Limits.{maxGap, longest}
-use Rattle.queue.specs.Row.{cellsOf, queueOf, eventsOf}
+use Rattle.queue.specs.Row.{cell, cellsOf, queueOf, eventsOf}
 use Rattle.queue.specs.Sound.{soundb}
 use Rattle.queue.specs.Calls.{acceptedWith, formed, withoutEvent, removeOf}
-use Rattle.queue.specs.Moves.{behindOf, removeCells}
-use Rattle.queue.proofs.Cells.{made-len, made-again}
+use Rattle.queue.specs.Moves.{linksOf, behindOf, removeCells, movedTo}
+use Rattle.queue.specs.declared.Cell.{Cell}
+use Rattle.queue.proofs.Cells.{made-again, cells-length}
 use Rattle.queue.proofs.Soundness.{Sound, sound-is, sound-full}
-use Rattle.queue.proofs.Placing.{Following, following, made-behind, copied-head, remove-sound, remove-fits}
+use Rattle.queue.proofs.Moving.{sets-before, sets-behind, made-sets, links-length}
+use Rattle.queue.proofs.Placing.{Following, following, remove-sound, remove-fewer}
 use Rattle.queue.proofs.remove.Statement.{statement}
 use Rattle.queue.proofs.remove.Tie as tie
 
@@ -36,26 +39,75 @@ next c =
     let s = is-sound (f .before) in
     following q (sound-full maxGap longest q s) (s .short) (f .find .result .at) (f .find .result .behind) (f .find .ensures .in-row) (c .next-event .result) (c .next-event .ensures)
 
--- the row
-row : (c : tie.After-next-event) → let f = c .before .before .before in let a = f .before .before .before .args in
-    removeCells maxGap (a .id) (cellsOf (a .q)) ≡ take (f .find .result .start) (cellsOf (a .q)) ++ behindOf maxGap (f .find .result .last) (c .next-event .result) (cellsOf (a .q))
-row c = let f = c .before .before .before in f .find .ensures .row (found (c .before)) maxGap ∙ rw (next c .tail maxGap (f .find .result .last))
+-- the row: up to the event before, the cells of the next, and what stands behind
+abbrev then : tie.After-chain-to → List Cell
+then c = linksOf maxGap (c .chain-to .result) (c .before .next-event .result .id)
 
--- is put together
-head : (c : tie.After-copied) → let f = c .before .before .before .before .before in
-    c .copied .result ≡ queueOf (take (f .find .result .start) (cellsOf (f .before .before .before .args .q)))
-head c =
-    let f = c .before .before .before .before .before in
-    copied-head (f .before .before .before .args .q) (c .before .empty .result) (c .copied .result) (f .find .result .start) (c .before .empty .ensures) (c .copied .ensures)
+abbrev tail : tie.After-chain-to → List Cell
+tail c = let n = c .before in drop (n .next-event .result .behind) (cellsOf (n .before .before .before .before .before .before .args .q))
 
-made : (c : tie.After-with-tail) → let a = c .before .before .before .before .before .before .before .before .before .args in
-    c .with-tail .result ≡ formed maxGap (withoutEvent (a .id) (eventsOf (a .q)))
+row : (c : tie.After-chain-to) → let f = c .before .before .before .before in let a = f .before .before .before .args in
+    removeCells maxGap (a .id) (cellsOf (a .q)) ≡ take (f .find .result .start) (cellsOf (a .q)) ++ (then c ++ tail c)
+unfolding behindOf
+row c =
+    let n = c .before in
+    let f = n .before .before .before in
+    f .find .ensures .row (found (n .before)) maxGap ∙ rw (next n .tail maxGap (f .find .result .last), c .chain-to .ensures)
+
+then-length : (c : tie.After-chain-to) → length (then c) ≡ c .chain-to .result .cells
+then-length c = links-length maxGap (c .chain-to .result .cells) (c .before .next-event .result .id) (c .chain-to .result .gap)
+
+tail-length : (c : tie.After-chain-to) → let n = c .before in length (tail c) ≡ n .before .before .before .before .before .before .args .q .len - n .next-event .result .behind
+tail-length c =
+    let e = c .before .before .before .before .before in
+    let q = e .before .before .args .q in
+    rw (length-drop, cells-length q (sound-full maxGap longest q (is-sound e)) (is-sound e .short))
+
+-- what stands behind goes down
+fewer : (c : tie.After-chain-to) → let n = c .before in n .before .before .before .find .result .start + c .chain-to .result .cells ≤ n .next-event .result .behind
+fewer c =
+    let n = c .before in
+    let f = n .before .before .before in
+    let a = f .before .before .before .args in
+    let s = is-sound (f .before) in
+    let l = cells-length (a .q) (sound-full maxGap longest (a .q) s) (s .short) in
+    let h : length (take (f .find .result .start) (cellsOf (a .q))) ≡ f .find .result .start =
+    length-take-le (f .find .result .start) (cellsOf (a .q)) (omega (arith, f .find .ensures .start-by, f .find .ensures .in-row)) in
+    let k : length (removeCells maxGap (a .id) (cellsOf (a .q))) ≡ f .find .result .start + (c .chain-to .result .cells + (a .q .len - n .next-event .result .behind)) =
+    ap length (row c) ∙ rw (length-append (take (f .find .result .start) (cellsOf (a .q))) (then c ++ tail c), h, length-append (then c) (tail c), then-length c, tail-length c) in
+    omega (arith, remove-fewer maxGap longest (a .q) s (a .id) (omega arith), next n .within)
+
+made : (c : tie.After-linked) → let a = c .before .before .before .before .before .before .before .before .before .before .before .before .args in
+    c .linked .result ≡ formed maxGap (withoutEvent (a .id) (eventsOf (a .q)))
+unfolding movedTo
 made c =
-    let n = c .before .before .before in
-    let e = n .before .before .before .before in
-    let a = e .before .before .args in
-    rw (← remove-sound maxGap longest (a .q) (is-sound e) (a .id), row n)
-    (made-behind (c .before .copied .result) (c .with-tail .result) _ _ (head (c .before)) (c .with-tail .ensures))
+    let t = c .before .before .before .before .before in
+    let n = t .before in
+    let f = n .before .before .before in
+    let a = f .before .before .before .args in
+    let q = a .q in
+    let s = is-sound (f .before) in
+    let full = sound-full maxGap longest q s in
+    let i = f .find .result .start in
+    let to = i + t .chain-to .result .cells in
+    let m = to + (q .len - n .next-event .result .behind) in
+    let k = q .len - m in
+    let zs = replicate k (cell 0 0) in
+    let l = cells-length q full (s .short) in
+    let lh = then-length t in
+    let lt = tail-length t in
+    let lx : length (then t ++ tail t) ≡ t .chain-to .result .cells + (q .len - n .next-event .result .behind) = rw (length-append, lh, lt) in
+    let by : i ≤ q .len = omega (arith, f .find .ensures .start-by, f .find .ensures .in-row) in
+    let e : sets (sets (sets (q .cells) to (tail t)) m zs) i (then t) ≡ sets (q .cells) i ((then t ++ tail t) ++ zs) =
+    ap (λ (x : List Cell). sets x i (then t)) (sets-behind (q .cells) to m (tail t) zs (omega arith))
+    ∙ sets-before (q .cells) i to (then t) (tail t ++ zs) (omega arith)
+    ∙ ap (sets (q .cells) i) (sym (append-assoc (then t) (tail t) zs)) in
+    let cells : sets (c .before .cleared .result .cells) i (then t) ≡ sets (q .cells) i ((then t ++ tail t) ++ zs) = rw (c .before .cleared .ensures, c .before .before .down .ensures) e in
+    let len : c .before .cleared .result .len ≡ i + length (then t ++ tail t) = rw (c .before .cleared .ensures, c .before .before .down .ensures) (omega arith) in
+    c .linked .ensures
+    ∙ (λ j. record { cells = cells j; len = len j })
+    ∙ made-sets q (cellsOf q) (made-again q _ (s .form)) i k (then t ++ tail t) (omega arith) (omega (arith, fewer t, next n .within)) (omega (arith, fewer t, next n .within, s .short)) full
+    ∙ ap queueOf (sym (row t) ∙ remove-sound maxGap longest q s (a .id))
 
 sound-requires : tie.Need-sound-requires
 sound-requires c κs = search needs
@@ -85,29 +137,31 @@ next-event-requires c κs =
     let s = is-sound (f .before) .short in
     (s, f .find .ensures .in-row, omega (arith, f .find .ensures .small, f .find .ensures .in-row))
 
-empty-requires : tie.Need-empty-requires
-empty-requires c κs = search needs
+chain-to-requires : tie.Need-chain-to-requires
+chain-to-requires c κs =
+    let f = c .before .before .before in
+    λ e. omega (arith, f .find .ensures .last-by, next c .later)
 
-copied-requires : tie.Need-copied-requires
-copied-requires c κs =
-    let f = c .before .before .before .before in
-    let s = is-sound (f .before) .short in
-    let e = c .empty in
-    let h : f .find .result .start ≤ f .before .before .before .args .q .len = omega (arith, f .find .ensures .start-by, f .find .ensures .in-row) in
-    (made-again (e .result) [] (e .ensures), (omega arith, h, s, omega (arith, made-len (e .result) [] (e .ensures))))
+add-down : tie.Need-add-down
+add-down c =
+    let t = c .before .before in
+    omega (arith, fewer t, is-sound (t .before .before .before .before .before) .short)
 
-with-tail-requires : tie.Need-with-tail-requires
-with-tail-requires c κs =
-    let n = c .before .before in
-    let f = n .before .before .before in
-    let a = f .before .before .before .args in
-    let s = is-sound (f .before) in
-    let h = head c in
-    let l = next n .later in
-    let fits = remove-fits maxGap longest (a .q) s (a .id) (omega arith) in (
-      made-again (c .copied .result) _ h,
-      ((s .short, next n .within, λ i. omega (arith, f .find .ensures .last-by)), omega (arith, rw (row n, length-append) at fits, made-len (c .copied .result) _ h)),
-    )
+down-requires : tie.Need-down-requires
+down-requires c κs =
+    let t = c .before .before in
+    (fewer t, next (t .before) .within, is-sound (t .before .before .before .before .before) .short)
+
+cleared-requires : tie.Need-cleared-requires
+unfolding movedTo
+cleared-requires c κs =
+    let t = c .before .before .before in
+    (rw (c .down .ensures) (omega (arith, fewer t, next (t .before) .within)), is-sound (t .before .before .before .before .before) .short)
+
+linked-requires : tie.Need-linked-requires
+linked-requires c κs =
+    let t = c .before .before .before .before in
+    omega (arith, fewer t, next (t .before) .within, is-sound (t .before .before .before .before .before) .short)
 
 accept-requires : tie.Need-accept-requires
 accept-requires c κs = search needs
@@ -115,7 +169,7 @@ accept-requires c κs = search needs
 returns-3 : tie.Need-returns-3
 unfolding removeOf
 returns-3 c =
-    let e = c .before .before .before .before .before in
+    let e = c .before .before .before .before .before .before .before .before in
     let f = e .before .before in
     rw (known1 (f .before), ← f .find .ensures .there, found e) (c .accept .ensures ∙ ap acceptedWith (made (c .before)))
 
@@ -130,8 +184,10 @@ remove-spec =
     refuse-requires-2
     returns-2
     next-event-requires
-    empty-requires
-    copied-requires
-    with-tail-requires
+    chain-to-requires
+    add-down
+    down-requires
+    cleared-requires
+    linked-requires
     accept-requires
     returns-3)

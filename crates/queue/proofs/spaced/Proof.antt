@@ -1,13 +1,13 @@
 -- `queue::spaced` meets its contract: behind a filler the gap is the largest; elsewhere a filler's is not 0, and no gap is above the largest that a u16 holds.
-use mathlib.Core.Path.{_≡_, sym}
-use mathlib.Core.Bool.{true, not}
+use mathlib.Core.Path.{_≡_, sym, _∙_}
+use mathlib.Core.Bool.{true}
 use native.Mathlib.Omega.{arith}
-use lib.Dec.{leb, eqb}
+use lib.Dec.{leb}
 use borrow.Author.Needs.{needs}
-use borrow.Author.Tests.{eq-eqb, ne-eqb, le-leb}
+use borrow.Author.Tests.{le-leb}
 use Rattle.refusal.proofs.Small.{both-true}
-use Rattle.queue.specs.Limits.{maxGap, filler}
-use Rattle.queue.proofs.Scan.{above-zero}
+use Rattle.queue.specs.Limits.{maxGap}
+use Rattle.queue.proofs.Scan.{empty-filler}
 use Rattle.queue.proofs.spaced.Statement.{statement}
 use Rattle.queue.proofs.spaced.Tie as tie
 
@@ -17,17 +17,20 @@ cast-gap c = search needs
 returns : tie.Need-returns
 returns c = rw (c .if1 .taken)
 
+cast-result : tie.Need-cast-result
+cast-result c = search needs
+
+cast-result-2 : tie.Need-cast-result-2
+cast-result-2 c = search needs
+
+add-result : tie.Need-add-result
+add-result c = search needs
+
 returns-2 : tie.Need-returns-2
 returns-2 c =
-    let x = c .before .before .before .before .args .c in
+    let x = c .before .before .before .args .c in
     let l : leb (x .gap) maxGap ≡ true = le-leb (x .gap) maxGap (omega arith) in
-    rw (c .before .before .if1 .left, eq-eqb (x .id) filler (c .if2 .taken), l, above-zero (x .gap)) (sym (both-true (not (eqb (x .gap) 0))))
-
-returns-3 : tie.Need-returns-3
-returns-3 c =
-    let x = c .before .before .before .before .args .c in
-    let l : leb (x .gap) maxGap ≡ true = le-leb (x .gap) maxGap (omega arith) in
-    rw (c .before .before .if1 .left, ne-eqb (x .id) filler (c .if2 .left), l)
+    rw (c .before .if1 .left, l) (empty-filler (x .id) (x .gap) (omega arith) ∙ sym (both-true _))
 
 pub spaced-spec : {M : Type 1} → statement M
-spaced-spec = tie.close (tie.spec cast-gap returns returns-2 returns-3)
+spaced-spec = tie.close (tie.spec cast-gap returns cast-result cast-result-2 add-result returns-2)

@@ -8,24 +8,22 @@ use borrow.Author.Tests.{eq-eqb, ne-eqb}
 use Rattle.queue.specs.Limits.{cellCount}
 use Rattle.queue.specs.Row.{cell}
 use Rattle.queue.specs.Steps.{restStep}
-use Rattle.queue.proofs.Ticking.{down, down-step, down-end}
+use Rattle.queue.proofs.Ticking.{down, down-read, down-step, down-end}
 use Rattle.queue.proofs.without_first.Statement.{statement}
 use Rattle.queue.proofs.without_first.Tie as tie
-use Rattle.queue.proofs.without_first.Reads as reads
-use Rattle.queue.proofs.without_first.Lts as lts
 
 abbrev Inv-loop : tie.InvT-loop
-Inv-loop q n next₀ i₀ next i = (1 ≤ i) × (i ≤ cellCount) × (next .cells ≡ down (i - 1) (q .cells))
+Inv-loop n next₀ i₀ next i = (1 ≤ i) × (i ≤ cellCount) × (next .cells ≡ down (i - 1) (next₀ .cells))
 
 abbrev μ-loop : tie.MeasureT-loop
-μ-loop q n next₀ i₀ next i = cellCount - i
+μ-loop n next₀ i₀ next i = cellCount - i
 
-full : (s : tie.Start Inv-loop μ-loop) → length (s .args .t1 .cells) ≡ cellCount
+full : (s : tie.Start Inv-loop μ-loop) → length (s .args .q .cells) ≡ cellCount
 full s = rw length-map at (s .good .0 .1 .1 .0 .1 .0 .1)
 
 returns : tie.Need-returns Inv-loop μ-loop
 unfolding restStep
-returns c = rw (eq-eqb (c .before .args .t1 .len) 0 (c .if1 .taken))
+returns c = rw (eq-eqb (c .before .args .q .len) 0 (c .if1 .taken))
 
 loop-holds : tie.Need-loop-holds Inv-loop μ-loop
 loop-holds c = (omega arith, omega arith, refl)
@@ -54,15 +52,15 @@ loop-less c = omega arith
 loop-again : tie.Need-loop-again Inv-loop μ-loop
 loop-again c =
     let l = c .before .before .loop in
-    let s = c .before .before .before .before in
-    let n : length (s .args .t1 .cells) ≡ cellCount = full s in
-    (omega arith, omega arith, rw (l .inv .2) (down-step (s .args .t1 .cells) (l .i) (l .inv .0) (omega arith)))
+    let cs = c .before .before .before .before .args .q .cells in
+    let n : length cs ≡ cellCount = full (c .before .before .before .before) in
+    (omega arith, omega arith, rw (l .inv .2, down-read cs (l .i) (l .inv .0) (omega arith)) (down-step cs (l .i) (l .inv .0) (omega arith)))
 
-sub-t18 : tie.Need-sub-t18 Inv-loop μ-loop
-sub-t18 c = omega arith
+sub-t16 : tie.Need-sub-t16 Inv-loop μ-loop
+sub-t16 c = omega arith
 
-mul-t19 : tie.Need-mul-t19 Inv-loop μ-loop
-mul-t19 c = omega arith
+mul-t17 : tie.Need-mul-t17 Inv-loop μ-loop
+mul-t17 c = omega arith
 
 element-set-from-next : tie.Need-element-set-from-next Inv-loop μ-loop
 element-set-from-next c = omega arith
@@ -74,7 +72,7 @@ returns-2 : tie.Need-returns-2 Inv-loop μ-loop
 unfolding restStep
 returns-2 c =
     let l = c .before .loop in
-    let q = c .before .before .before .args .t1 in
+    let q = c .before .before .before .args .q in
     let k : l .i - 1 ≡ 31 = omega arith in
     let e : l .next .cells ≡ down 31 (q .cells) = rw k at (l .inv .2) in
     let f : set (l .next .cells) 31 (cell 0 0) ≡ drop 1 (q .cells) ++ (cell 0 0 ∷ []) = rw e (down-end (q .cells) 31 (cell 0 0) (full (c .before .before .before))) in
@@ -96,8 +94,8 @@ without-first-spec =
     add-i
     loop-less
     loop-again
-    sub-t18
-    mul-t19
+    sub-t16
+    mul-t17
     element-set-from-next
     sub-next
     returns-2)

@@ -1,24 +1,19 @@
--- `queue::tail_zero` meets its contract: a sum of ids and gaps is 0 where each of them is.
-use mathlib.Core.Path.{_≡_, refl, sym, _∙_}
+-- `queue::total` meets its contract: what is added up and the sum of the cells that are left are the whole.
+use mathlib.Core.Path.{_≡_}
 use mathlib.Core.List.{[], _∷_}
 use Prim.Native.Nat.{_+_, _*_, _-_, _≤_}
 use native.Mathlib.Omega.{arith}
 use native.Mathlib.Numerals.{add-one}
-use lib.Dec.{eqb}
 use lib.ListN.{length, drop, getD, length-map, drop-of-length-le}
 use lib.Seq.{drop-cons}
-use Rattle.refusal.specs.Small.{both}
-use Rattle.refusal.proofs.Small.{both-true}
 use Rattle.queue.specs.Limits.{maxGap, cellCount, filler}
 use Rattle.queue.specs.Row.{cell}
-use Rattle.queue.specs.Moves.{zerob}
-use Rattle.queue.proofs.Scan.{zero-sum}
-use Rattle.queue.proofs.tail_zero.Statement.{statement}
-use Rattle.queue.proofs.tail_zero.Tie as tie
+use Rattle.queue.specs.Moves.{sumOf}
+use Rattle.queue.proofs.total.Statement.{statement}
+use Rattle.queue.proofs.total.Tie as tie
 
 abbrev Inv-loop : tie.InvT-loop
-Inv-loop q sum₀ i₀ sum i =
-    (i ≤ cellCount) × (sum ≤ (filler + maxGap) * i) × (zerob (drop (q .len) (q .cells)) ≡ both (eqb sum 0) (zerob (drop i (q .cells))))
+Inv-loop q sum₀ i₀ sum i = (i ≤ cellCount) × (sum ≤ (filler + maxGap) * i) × (sum + sumOf (drop i (q .cells)) ≡ sumOf (q .cells))
 
 abbrev μ-loop : tie.MeasureT-loop
 μ-loop q sum₀ i₀ sum i = cellCount - i
@@ -35,7 +30,7 @@ end : (c : tie.After-loop Inv-loop μ-loop) → drop (c .before .loop .i) (c .be
 end c = drop-of-length-le (c .before .before .args .t1 .cells) {i = c .before .loop .i} (omega (arith, full (c .before)))
 
 loop-holds : tie.Need-loop-holds Inv-loop μ-loop
-loop-holds c = (c .pre, omega arith, refl)
+loop-holds c = (omega arith, omega arith, omega arith)
 
 mul-c : tie.Need-mul-c Inv-loop μ-loop
 mul-c c = omega arith
@@ -64,16 +59,16 @@ loop-less c = omega arith
 loop-again : tie.Need-loop-again Inv-loop μ-loop
 loop-again c =
     let b = c .before .before .before in
-    let l = b .before .loop in
-    let cs = b .before .before .args .t1 .cells in
-    let x = getD cs (l .i) (cell 0 0) in
-    (omega arith, omega arith, l .inv .2 ∙ rw (step b) (zero-sum (l .sum) (x .id) (x .gap) (zerob (drop (l .i + 1) cs))))
+    let e = rw (step b) at (b .before .loop .inv .2) in
+    (omega arith, omega arith, omega arith)
 
 returns : tie.Need-returns Inv-loop μ-loop
-returns c = let l = c .before .loop in sym (l .inv .2 ∙ rw (end c) (both-true (eqb (l .sum) 0)))
+returns c =
+    let e = rw (end c) at (c .before .loop .inv .2) in
+    omega arith
 
-pub tail-zero-spec : {M : Type 1} → statement M
-tail-zero-spec =
+pub total-spec : {M : Type 1} → statement M
+total-spec =
     tie.close
     (tie.spec
     Inv-loop

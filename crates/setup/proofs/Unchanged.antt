@@ -1,0 +1,59 @@
+-- "A refusal answers its number, the place (0 where none is named below) and zero in every other part"; "Writers leave bytes past the output unchanged." The
+-- numbers and places stand in Refusals. Assumes nothing.
+use mathlib.Core.Path.{_≡_, refl, sym, _∙_}
+use mathlib.Core.Bool.{Bool, true, false}
+use mathlib.Core.List.{List, _++_}
+use mathlib.Core.Logic.{_≢_}
+use Prim.Native.Nat.{ℕ}
+use lib.Dec.{eqb}
+use lib.ListN.{length, drop}
+use Rattle.refusal.specs.Small.{pick}
+use Rattle.refusal.specs.Refusal.{none, firstOf}
+use Rattle.field.specs.Write.{bufferAfter}
+use Rattle.field.proofs.Answers.{written-number, written-none, written-whole, buffer-same, buffer-whole, buffer-length}
+use Rattle.table.specs.Table.{zeroTable}
+use Rattle.table.specs.declared.Table.{Table}
+use Rattle.setup.specs.Layout.{bytesOf}
+use Rattle.setup.specs.Read.{setupChecks, tableOf, readWith, readOf}
+use Rattle.setup.specs.Write.{writeRefusal}
+use Rattle.setup.proofs.Refusals.{writeAnswer, write-accepted}
+
+-- THE READER
+
+-- refused, its table is zero in every part
+pub read-refused : (D W : ℕ) (bs : List ℕ) → readOf D W bs .refusal .number ≢ 0 → readOf D W bs .table ≡ zeroTable
+unfolding readOf
+read-refused D W bs = go (eqb (firstOf (setupChecks D W bs) .number) 0)
+  where
+    go : (b : Bool) → let a = pick b (readWith none (tableOf bs)) (readWith (firstOf (setupChecks D W bs)) zeroTable) in a .refusal .number ≢ 0 → a .table ≡ zeroTable
+    go true h = absurd (h refl)
+    go false h = refl
+
+-- THE WRITER, of a table t into a buffer
+
+module _ (D W : ℕ) (t : Table) (buf : List ℕ) where
+  -- what the buffer holds afterwards
+  abbrev pub writeBuffer : List ℕ
+  writeBuffer = bufferAfter (writeRefusal D W t (length buf)) (bytesOf t) buf
+
+  answer-number : writeAnswer D W t (length buf) .refusal .number ≡ writeRefusal D W t (length buf) .number
+  answer-number = written-number (writeRefusal D W t (length buf)) (bytesOf t)
+
+  -- refused, it answers length 0 and changes no byte
+  pub write-refused : writeAnswer D W t (length buf) .refusal .number ≢ 0 → (writeAnswer D W t (length buf) .length ≡ 0) × (writeBuffer ≡ buf)
+  write-refused h =
+      let r = writeRefusal D W t (length buf) in
+      let m : r .number ≢ 0 = λ e. h (answer-number ∙ e) in
+      (written-none r (bytesOf t) m, buffer-same r (bytesOf t) buf m)
+
+  -- accepted, the table's bytes stand first, their length is answered, and every byte past them is as it was
+  pub write-whole : writeAnswer D W t (length buf) .refusal .number ≡ 0
+      → (writeAnswer D W t (length buf) .length ≡ length (bytesOf t)) × (writeBuffer ≡ bytesOf t ++ drop (length (bytesOf t)) buf)
+  write-whole e =
+      let r = writeRefusal D W t (length buf) in
+      let z : r .number ≡ 0 = sym answer-number ∙ e in
+      (written-whole r (bytesOf t) z, buffer-whole r (bytesOf t) buf z (write-accepted D W t (length buf) .0 e .1))
+
+  -- and the buffer keeps its length
+  pub write-length : length writeBuffer ≡ length buf
+  write-length = buffer-length (writeRefusal D W t (length buf)) (bytesOf t) buf

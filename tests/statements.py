@@ -1,0 +1,63 @@
+"""Every statement that docs/ASSURANCE.md names is in the file that its row names, and every must-fail edit is there; and each edit is named.
+
+A row of a table that has a file in it is a row of the argument: | what | `statement`, `statement` | `crates/..` | `crate/edit`, .. |
+A statement is a declaration of an .antt file, or a function of an .rt file."""
+import pathlib
+import re
+import sys
+
+ROOT = pathlib.Path(__file__).resolve().parent.parent
+
+
+def declares(text, name, rust):
+    if rust:
+        return re.search(rf"^\s*pub fn {re.escape(name)}\(", text, re.M) is not None
+    return re.search(rf"^\s*(abbrev |unfoldable )?(pub )?(record )?{re.escape(name)} (:|\()", text, re.M) is not None
+
+
+def faults(page, root):
+    """What is wrong with a page of the argument, as lines of text; and how many statements and edits it names."""
+    wrong, statements, edits = [], 0, set()
+    for number, line in enumerate(page.split("\n"), 1):
+        parts = [part.strip() for part in line.strip().strip("|").split("|")]
+        if not line.startswith("|") or len(parts) != 4 or "`crates/" not in parts[2]:
+            continue
+        texts = []
+        for path in re.findall(r"`(crates/[^`]+)`", parts[2]):
+            if (root / path).is_file():
+                texts.append(((root / path).read_text(), path.endswith(".rt")))
+            else:
+                wrong.append(f"line {number}: no file {path}")
+        for name in re.findall(r"`([^`]+)`", parts[1]):
+            statements += 1
+            if not any(declares(text, name, rust) for text, rust in texts):
+                wrong.append(f"line {number}: no statement {name} in {parts[2]}")
+        for edit in re.findall(r"`([^`]+)`", parts[3]):
+            edits.add(edit)
+            crate, _, label = edit.partition("/")
+            if not (root / "crates" / crate / "must-fail" / f"{label}.edit").is_file():
+                wrong.append(f"line {number}: no must-fail edit {edit}")
+    there = {f"{path.parent.parent.name}/{path.stem}" for path in root.glob("crates/*/must-fail/*.edit")}
+    wrong += [f"the must-fail edit {edit} is in no row" for edit in sorted(there - edits)]
+    if statements == 0:
+        wrong.append("no statement is named")
+    return wrong, statements, len(edits)
+
+
+def main():
+    page = (ROOT / "docs" / "ASSURANCE.md").read_text()
+    wrong, statements, edits = faults(page, ROOT)
+    # the test itself must be able to fail: a name that is nowhere, a file that is not there, an edit that is not there
+    row = "| x | `{}` | `{}` | `{}` |"
+    here = "crates/refusal/specs/Refusal.antt"
+    for broken in (row.format("nowhere", here, ""), row.format("firstOf", "crates/none.antt", ""), row.format("firstOf", here, "refusal/none")):
+        if len(faults(page + "\n" + broken, ROOT)[0]) <= len(wrong):
+            wrong.append(f"the test passes over {broken}")
+    for line in wrong:
+        print(f"docs/ASSURANCE.md: {line}")
+    if wrong:
+        sys.exit(1)
+    print(f"docs/ASSURANCE.md: {statements} statements and {edits} must-fail edits, all there")
+
+
+main()

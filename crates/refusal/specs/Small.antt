@@ -1,7 +1,7 @@
 -- The small definitions that all others are written with.
 use mathlib.Core.Bool.{Bool, true, false}
-use mathlib.Core.List.{List, _++_}
-use Prim.Native.Nat.{ℕ, _-_}
+use mathlib.Core.List.{List, [], _∷_, _++_}
+use Prim.Native.Nat.{ℕ, zero, suc, _-_}
 use lib.ListN.{length, replicate}
 
 -- the first where the test holds, else the second
@@ -16,3 +16,9 @@ both false b = false
 -- a list, filled up with z to n elements
 abbrev pub padded {ℓ} : {A : Type ℓ} → A → ℕ → List A → List A
 padded z n xs = xs ++ replicate (n - length xs) z
+
+-- a list with one entry changed, or as it is where there is no such entry
+abbrev pub alter {ℓ} : {A : Type ℓ} → (A → A) → List A → ℕ → List A
+alter f [] i = []
+alter f (x ∷ xs) zero = f x ∷ xs
+alter f (x ∷ xs) (suc i) = x ∷ alter f xs i

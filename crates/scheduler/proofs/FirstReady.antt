@@ -1,0 +1,129 @@
+-- Steps 1 and 2 of a tick: who is chosen. Assumes nothing.
+use mathlib.Core.Path.{_≡_, refl, sym, ap}
+use mathlib.Core.Bool.{Bool, true, false}
+use mathlib.Core.List.{List}
+use Prim.Native.Nat.{ℕ, _≤_, _<_}
+use native.Mathlib.Omega.{arith}
+use lib.Dec.{ltb, eqb}
+use lib.ListN.{length, getD, List·getD-eq-default}
+use borrow.Author.Tests.{le-ltb, ltb-true, ltb-false, eqb-true, ne-eqb}
+use Rattle.refusal.specs.Small.{pick, both}
+use Rattle.refusal.proofs.Small.{both-left, both-false, contrary}
+use Rattle.queue.specs.Limits.{longest}
+use Rattle.table.specs.Limits.{entries, mostWork}
+use Rattle.table.specs.Table.{zeroServer}
+use Rattle.table.specs.Sound.{serverb, zeroServerb}
+use Rattle.scheduler.specs.State.{zeroLoad, zeroEntry, serverAt, entryAt}
+use Rattle.scheduler.specs.Sound.{loadb, zeroLoadb, stateb}
+use Rattle.scheduler.specs.Choice.{pendingb, firstPending, somePending, wantsb, chosenOf, choiceOf, servesb}
+use Rattle.scheduler.specs.Meaning.{SizedState, readyAt, pendingAt, Highest, Chosen}
+use Rattle.scheduler.specs.declared.Load.{Load}
+use Rattle.scheduler.specs.declared.Entry.{Entry}
+use Rattle.scheduler.specs.declared.State.{State}
+use Rattle.scheduler.specs.declared.Choice.the-variants.{Idle, Burning, Running}
+use Rattle.scheduler.proofs.Stated.{Stated, stated, entry-stated}
+use Rattle.scheduler.proofs.Choosing.{FirstOf, first-pending, some-first, first-ready}
+use Rattle.scheduler.proofs.Turns.{in-use}
+use Rattle.scheduler.proofs.TickSound.{table-used}
+
+-- a server that wants the tick with no work pending is idling
+wants-idling : (kind : ℕ) (e : Entry) → somePending (e .loads) ≡ false → wantsb kind e ≡ true → kind ≡ 1
+unfolding wantsb
+wants-idling kind e n w = go (eqb kind 1) refl (rw n at w)
+  where
+    go : (b : Bool) → eqb kind 1 ≡ b → pick b true (both (eqb kind 2) false) ≡ true → kind ≡ 1
+    go true p r = eqb-true kind 1 p
+    go false p r = contrary r (both-false (eqb kind 2))
+
+-- one of no kind never does
+rests : (kind : ℕ) (e : Entry) → kind ≡ 0 → wantsb kind e ≡ false
+unfolding wantsb
+rests kind e k = rw k
+
+module _ (s : State) (z : SizedState s) (h : stateb s ≡ true) where
+  parts : Stated s
+  parts = stated s record { servers = z .table .servers; entries = z .servers } .0 h
+
+  -- a server that is ready is in use
+  ready-used : (i : ℕ) → readyAt s i ≡ true → i < s .table .count
+  ready-used i r = in-use (serverb longest mostWork) zeroServerb zeroServer refl (s .table .servers) (s .table .count) i (table-used (s .table) (parts .table)) unready .0
+    where
+      unready : zeroServerb (serverAt s i) ≡ true → ⊥
+      unready x = contrary (both-left _ _ r) (rests (serverAt s i .kind) (entryAt s i) (eqb-true (serverAt s i .kind) 0 (both-left _ _ x)))
+
+  -- and so is a task with work pending
+  pending-used : (k j : ℕ) → k < entries → pendingAt s k j ≡ true → j < serverAt s k .count
+  pending-used k j l r = in-use loadb zeroLoadb zeroLoad refl ls (serverAt s k .count) j (entry-stated (serverAt s k) (entryAt s k) .0 (parts .entry k l) .loads) unloaded .0
+    where
+      ls : List Load
+      ls = entryAt s k .loads
+
+      unloaded : zeroLoadb (getD ls j zeroLoad) ≡ true → ⊥
+      unloaded x = contrary r (ap (ltb 0) (eqb-true (getD ls j zeroLoad .pending .0) 0 (both-left _ _ x)))
+
+  chosen : FirstOf (readyAt s) (length (s .table .servers)) (chosenOf s)
+  unfolding chosenOf
+  chosen = first-ready (s .table .servers) (s .entries) (omega (arith, z .table .servers, z .servers)) zeroServer zeroEntry
+
+  highest : chosenOf s < entries → Highest s (chosenOf s)
+  highest l =
+      let r : readyAt s (chosenOf s) ≡ true = chosen .here (omega (arith, z .table .servers)) in
+      record { used = ready-used (chosenOf s) r; ready = r; above = chosen .above }
+
+  -- STEPS 1 AND 2
+  pub chosen-first : Chosen s (choiceOf s)
+  unfolding choiceOf
+  chosen-first = go (ltb k entries) (ltb j entries) refl refl
+    where
+      k : ℕ
+      k = chosenOf s
+
+      ls : List Load
+      ls = entryAt s k .loads
+
+      j : ℕ
+      j = firstPending ls
+
+      none-ready : entries ≤ k → (i : ℕ) → readyAt s i ≡ false
+      none-ready l i = go (readyAt s i) refl
+        where
+          go : (b : Bool) → readyAt s i ≡ b → b ≡ false
+          go true r = contrary r (chosen .above i (omega (arith, ready-used i r, parts .servers .count)))
+          go false r = refl
+
+      none-pending : length ls ≤ j → (i : ℕ) → pendingb (getD ls i zeroLoad) ≡ false
+      none-pending l i = go (ltb i (length ls)) refl
+        where
+          go : (b : Bool) → ltb i (length ls) ≡ b → pendingb (getD ls i zeroLoad) ≡ false
+          go true m = first-pending ls zeroLoad .above i (omega (arith, ltb-true i (length ls) m))
+          go false m = rw (List·getD-eq-default ls zeroLoad (ltb-false i (length ls) m))
+
+      go : (a b : Bool) → ltb k entries ≡ a → ltb j entries ≡ b → Chosen s (pick a (pick b (Running k j) (Burning k)) Idle)
+      go false b p q = none-ready (ltb-false k entries p)
+      go true true p q =
+          let l = ltb-true k entries p in
+          let f = first-pending ls zeroLoad in
+          let w = f .here (omega (arith, z .loads k l, ltb-true j entries q)) in
+          (highest l, record { used = pending-used k j l w; pending = w; above = f .above })
+      go true false p q =
+          let l = ltb-true k entries p in
+          let t = highest l in
+          let m : length ls ≤ j = omega (arith, z .loads k l, ltb-false j entries q) in
+          let n : somePending ls ≡ false = rw (some-first ls) (le-ltb j (length ls) m) in
+          (t, record { idling = wants-idling (serverAt s k .kind) (entryAt s k) n (both-left _ _ (t .ready)); none = none-pending m })
+
+-- whom a choice serves
+pub serves-chosen : (s : State) (i : ℕ) → i < entries → servesb (choiceOf s) i ≡ eqb (chosenOf s) i
+unfolding choiceOf
+serves-chosen s i l = go (ltb k entries) (ltb j entries) refl
+  where
+    k : ℕ
+    k = chosenOf s
+
+    j : ℕ
+    j = firstPending (entryAt s k .loads)
+
+    go : (a b : Bool) → ltb k entries ≡ a → servesb (pick a (pick b (Running k j) (Burning k)) Idle) i ≡ eqb k i
+    go true true p = refl
+    go true false p = refl
+    go false b p = sym (ne-eqb k i (λ e. omega (arith, ltb-false k entries p)))

@@ -1,0 +1,113 @@
+-- "eight server entries, each with eight task entries": a fresh state has them, and a tick and an arrival keep them. Assumes nothing.
+use mathlib.Core.Path.{_≡_, refl, ap, _∙_}
+use mathlib.Core.List.{List, [], _∷_}
+use Prim.Native.Nat.{ℕ, zero, suc}
+use lib.ListN.{length, getD}
+use Rattle.refusal.specs.Small.{alter}
+use Rattle.table.specs.Table.{zeroServer}
+use Rattle.table.specs.Meaning.{Sized}
+use Rattle.table.specs.declared.Task.{Task}
+use Rattle.table.specs.declared.Server.{Server}
+use Rattle.table.specs.declared.Table.{Table}
+use Rattle.scheduler.specs.State.{zeroEntry, serverAt, taskAt}
+use Rattle.scheduler.specs.Choice.{firstPending, chosenOf}
+use Rattle.scheduler.specs.Arrive.{loadAfter, withArrival, withLoads, arriveOf}
+use Rattle.scheduler.specs.Tick.{lessWork, charge, dueIn, withBudget, refilled, fullAt, arrivedLoads, served4, eachEntry, chargedEntries, stateAfter}
+use Rattle.scheduler.specs.Fresh.{freshLoads, freshEntry, freshEntries, freshState}
+use Rattle.scheduler.specs.Meaning.{SizedState}
+use Rattle.scheduler.specs.declared.Load.{Load}
+use Rattle.scheduler.specs.declared.Entry.{Entry}
+use Rattle.scheduler.specs.declared.State.{State}
+use Rattle.scheduler.proofs.Altered.{alter-keeps}
+use Rattle.scheduler.proofs.Lists.{length-alter}
+use Rattle.scheduler.proofs.Unchanged.{arrive-either}
+
+-- how many loads the entry at a place has
+abbrev loadCount : List Entry → ℕ → ℕ
+loadCount es i = length (getD es i zeroEntry .loads)
+
+alter-count : (f : Entry → Entry) → ((e : Entry) → length (f e .loads) ≡ length (e .loads)) → (es : List Entry) (k i : ℕ) → loadCount (alter f es k) i ≡ loadCount es i
+alter-count f keeps es k i = alter-keeps f (λ (e : Entry). length (e .loads)) keeps es k i zeroEntry
+
+-- THE STEPS OF A TICK
+
+pub charge-count : (e : Entry) → length (charge e .loads) ≡ length (e .loads)
+unfolding charge
+charge-count e = length-alter lessWork (e .loads) (firstPending (e .loads))
+
+pub refilled-length : (full : ℕ → ℕ) (ids : List ℕ) (es : List Entry) → length (refilled full ids es) ≡ length es
+refilled-length full [] es = refl
+refilled-length full (id ∷ ids) es = refilled-length full ids _ ∙ length-alter (withBudget (full id)) es id
+
+refilled-count : (full : ℕ → ℕ) (ids : List ℕ) (es : List Entry) (i : ℕ) → loadCount (refilled full ids es) i ≡ loadCount es i
+refilled-count full [] es i = refl
+refilled-count full (id ∷ ids) es i = refilled-count full ids _ i ∙ alter-count (withBudget (full id)) (λ e. refl) es id i
+
+arrived-count : (s : Server) (ids : List ℕ) (ls : List Load) → length (arrivedLoads s ids ls) ≡ length ls
+arrived-count s [] ls = refl
+arrived-count s (id ∷ ids) ls = arrived-count s ids _ ∙ length-alter (loadAfter (taskAt s id .work .0)) ls id
+
+pub served-length : (ss : List Server) (es : List Entry) → length (eachEntry served4 ss es) ≡ length es
+served-length [] es = refl
+served-length (s ∷ ss) [] = refl
+served-length (s ∷ ss) (e ∷ es) = ap suc (served-length ss es)
+
+served-count : (ss : List Server) (es : List Entry) (i : ℕ) → loadCount (eachEntry served4 ss es) i ≡ loadCount es i
+unfolding served4
+served-count [] es i = refl
+served-count (s ∷ ss) [] i = refl
+served-count (s ∷ ss) (e ∷ es) zero = arrived-count s (dueIn (e .arrivals)) (e .loads)
+served-count (s ∷ ss) (e ∷ es) (suc i) = served-count ss es i
+
+pub tick-sized : (s : State) → SizedState s → SizedState (stateAfter s)
+unfolding stateAfter
+tick-sized s z =
+    let ss = s .table .servers in
+    let ids = dueIn (s .refills) in
+    record {
+      table = z .table;
+      servers = served-length ss _ ∙ refilled-length (fullAt s) ids (chargedEntries s) ∙ length-alter charge (s .entries) (chosenOf s) ∙ z .servers;
+      loads = λ i h. served-count ss _ i ∙ refilled-count (fullAt s) ids (chargedEntries s) i ∙ alter-count charge charge-count (s .entries) (chosenOf s) i ∙ z .loads i h;
+    }
+
+-- AN ARRIVAL
+
+pub arrive-sized : (s : State) (i j : ℕ) → SizedState s → SizedState (arriveOf s i j .state)
+arrive-sized s i j z =
+    arrive-either s i j SizedState z λ a.
+    record {
+      table = z .table;
+      servers = length-alter f (s .entries) i ∙ z .servers;
+      loads = λ k h. alter-count f (λ e. length-alter (loadAfter E) (e .loads) j) (s .entries) i k ∙ z .loads k h;
+    }
+  where
+    E : ℕ
+    E = taskAt (serverAt s i) j .work .0
+
+    f : Entry → Entry
+    f e = withLoads (withArrival E j (e .loads)) e
+
+-- A FRESH STATE
+
+loads-length : (ts : List Task) → length (freshLoads ts) ≡ length ts
+loads-length [] = refl
+loads-length (t ∷ ts) = ap suc (loads-length ts)
+
+entries-length : (ss : List Server) → length (freshEntries ss) ≡ length ss
+entries-length [] = refl
+entries-length (s ∷ ss) = ap suc (entries-length ss)
+
+entries-count : (ss : List Server) (i : ℕ) → loadCount (freshEntries ss) i ≡ length (getD ss i zeroServer .tasks)
+unfolding freshEntry
+entries-count [] i = refl
+entries-count (s ∷ ss) zero = loads-length (s .tasks)
+entries-count (s ∷ ss) (suc i) = entries-count ss i
+
+pub fresh-sized : (t : Table) → Sized t → SizedState (freshState t)
+unfolding freshState
+fresh-sized t z =
+    record {
+      table = z;
+      servers = entries-length (t .servers) ∙ z .servers;
+      loads = λ i h. entries-count (t .servers) i ∙ z .tasks i h;
+    }

@@ -1,0 +1,129 @@
+-- Steps 3 and 4 of a tick for each server in use, and what an arrival leaves alone. The arrays have their lengths. Assumes nothing.
+use mathlib.Core.Path.{_≡_, refl, ap, _∙_}
+use mathlib.Core.Bool.{Bool, true, false}
+use mathlib.Core.List.{List, [], _∷_}
+use Prim.Native.Nat.{ℕ, zero, suc, _-_, _≤_, _<_}
+use native.Mathlib.Omega.{arith}
+use lib.Dec.{eqb}
+use lib.ListN.{length, getD}
+use borrow.Author.Tests.{eq-eqb, ne-eqb, eqb-true}
+use Rattle.refusal.specs.Small.{pick, alter}
+use Rattle.queue.specs.Limits.{longest}
+use Rattle.queue.proofs.DueTimes.{there}
+use Rattle.table.specs.Limits.{entries, mostWork}
+use Rattle.table.specs.declared.Server.{Server}
+use Rattle.table.specs.Meaning.{SoundTable}
+use Rattle.table.proofs.Soundness.{table-sound}
+use Rattle.scheduler.specs.State.{zeroEntry, serverAt, entryAt}
+use Rattle.scheduler.specs.Sound.{serverReaches, stateb}
+use Rattle.scheduler.specs.Choice.{chosenOf, choiceOf, servesb}
+use Rattle.scheduler.specs.Arrive.{arriveOf}
+use Rattle.scheduler.specs.Tick.{charge, dueIn, withBudget, refilled, periodAt, fullAt, served4, eachEntry, chargedEntries, stateAfter}
+use Rattle.scheduler.specs.Meaning.{SizedState, budgetAt, refillAway, Spent, Filled}
+use Rattle.scheduler.specs.declared.Entry.{Entry}
+use Rattle.scheduler.specs.declared.State.{State}
+use Rattle.scheduler.proofs.Stated.{server-reach, entry-stated, stated}
+use Rattle.scheduler.proofs.Lists.{length-alter}
+use Rattle.scheduler.proofs.Altered.{read-altered, alter-keeps}
+use Rattle.scheduler.proofs.Unchanged.{arrive-either}
+use Rattle.scheduler.proofs.FirstReady.{serves-chosen}
+use Rattle.scheduler.proofs.Again.{inb, held-due, held-moved}
+use Rattle.scheduler.proofs.TickSound.{state-parts, server-delayed, refills-each}
+
+-- BUDGETS
+
+-- step 4 for a server's queue leaves its budget
+each-budget : (ss : List Server) (es : List Entry) (i : ℕ) → getD (eachEntry served4 ss es) i zeroEntry .budget .0 ≡ getD es i zeroEntry .budget .0
+unfolding served4
+each-budget [] es i = refl
+each-budget (s ∷ ss) [] i = refl
+each-budget (s ∷ ss) (e ∷ es) zero = refl
+each-budget (s ∷ ss) (e ∷ es) (suc i) = each-budget ss es i
+
+-- a budget is set where its id is one of those that are due
+refilled-budget : (full : ℕ → ℕ) (ids : List ℕ) (es : List Entry) (i : ℕ) → i < length es
+    → getD (refilled full ids es) i zeroEntry .budget .0 ≡ pick (inb i ids) (full i) (getD es i zeroEntry .budget .0)
+refilled-budget full [] es i l = refl
+refilled-budget full (id ∷ ids) es i l =
+    refilled-budget full ids (alter (withBudget (full id)) es id) i (rw (length-alter (withBudget (full id)) es id) l)
+    ∙ rw (read-altered (withBudget (full id)) es id i zeroEntry l) (go (eqb id i) (inb i ids) refl)
+  where
+    go : (b c : Bool) → eqb id i ≡ b
+        → pick c (full i) (pick b (withBudget (full id) (getD es i zeroEntry)) (getD es i zeroEntry) .budget .0) ≡ pick (pick b true c) (full i) (getD es i zeroEntry .budget .0)
+    go true true e = refl
+    go true false e = ap full (eqb-true id i e)
+    go false c e = refl
+
+charged-budget : (es : List Entry) (k i : ℕ) → i < length es → getD (alter charge es k) i zeroEntry .budget .0 ≡ getD es i zeroEntry .budget .0 - pick (eqb k i) 1 0
+unfolding charge
+charged-budget es k i l = rw (read-altered charge es k i zeroEntry l) (go (eqb k i))
+  where
+    go : (c : Bool) → pick c (charge (getD es i zeroEntry)) (getD es i zeroEntry) .budget .0 ≡ getD es i zeroEntry .budget .0 - pick c 1 0
+    go true = refl
+    go false = omega arith
+
+-- A TICK, for each server in use
+
+module _ (s : State) (z : SizedState s) (h : stateb s ≡ true) (i : ℕ) (u : i < s .table .count) where
+  known : SoundTable longest mostWork (s .table)
+  known = table-sound longest mostWork (s .table) (z .table) .0 (state-parts s .0 h .table)
+
+  inside : i < entries
+  inside = omega (arith, known .count .high)
+
+  -- its replenishment is there
+  refill-there : there i (s .refills) ≡ true
+  refill-there = refills-each s h .present i (rw (server-reach (s .table .servers) i) (known .used i u .period .low))
+
+  is-due : inb i (dueIn (s .refills)) ≡ eqb (refillAway s i) 1
+  is-due = held-due (serverReaches (s .table .servers)) (s .refills) (refills-each s h) i ∙ rw refill-there
+
+  -- a sound state: "budgets are at most C"; "a replenishment is 1 to P away"
+  pub sound-budget : budgetAt s i ≤ fullAt s i
+  sound-budget = entry-stated (serverAt s i) (entryAt s i) .0 (stated s record { servers = z .table .servers; entries = z .servers } .0 h .entry i inside) .budget
+
+  pub sound-refill : (1 ≤ refillAway s i) × (refillAway s i ≤ periodAt s i)
+  sound-refill = let w = refills-each s h .within i refill-there in (w .0, omega (arith, w .1, server-reach (s .table .servers) i))
+
+  -- "The server's budget and the chosen task's work fall by 1." "Due replenishments set the budget to C": "emptied first and then full"
+  pub tick-budget : budgetAt (stateAfter s) i ≡ pick (eqb (refillAway s i) 1) (fullAt s i) (budgetAt s i - pick (servesb (choiceOf s) i) 1 0)
+  unfolding stateAfter
+  tick-budget =
+      let l : i < length (s .entries) = omega (arith, inside, z .servers) in
+      let m : i < length (chargedEntries s) = rw (length-alter charge (s .entries) (chosenOf s)) l in
+      each-budget (s .table .servers) _ i
+      ∙ refilled-budget (fullAt s) (dueIn (s .refills)) (chargedEntries s) i m
+      ∙ rw (is-due, charged-budget (s .entries) (chosenOf s) i l, serves-chosen s i inside)
+
+  -- "are put in again P away"; "every distance falls by 1"
+  pub tick-due : refillAway (stateAfter s) i ≡ pick (eqb (refillAway s i) 1) (periodAt s i) (refillAway s i - 1)
+  unfolding stateAfter
+  tick-due =
+      held-moved (periodAt s) (serverReaches (s .table .servers)) (s .refills) (refills-each s h) (server-delayed (s .table) (state-parts s .0 h .table)) .moved i refill-there
+
+  -- so where the replenishment is further than the next tick, the server spends what it is served
+  pub tick-spent : 1 < refillAway s i → Spent s (stateAfter s) i
+  tick-spent m =
+      let n : eqb (refillAway s i) 1 ≡ false = ne-eqb (refillAway s i) 1 (λ e. omega arith) in
+      record { budget = rw n at tick-budget; refill = rw n at tick-due }
+
+  -- and where it is the next tick, the budget is full behind it
+  pub tick-filled : refillAway s i ≡ 1 → Filled s (stateAfter s) i
+  tick-filled e =
+      let n : eqb (refillAway s i) 1 ≡ true = eq-eqb (refillAway s i) 1 e in
+      record { budget = rw n at tick-budget; refill = rw n at tick-due }
+
+-- AN ARRIVAL changes neither a budget nor the replenishments, nor the table
+pub arrive-budget : (s : State) (i j k : ℕ) → budgetAt (arriveOf s i j .state) k ≡ budgetAt s k
+arrive-budget s i j k = arrive-either s i j (λ (x : State). budgetAt x k ≡ budgetAt s k) refl λ a. alter-keeps _ (λ (e : Entry). e .budget .0) (λ e. refl) (s .entries) i k zeroEntry
+
+pub arrive-refills : (s : State) (i j : ℕ) → arriveOf s i j .state .refills ≡ s .refills
+arrive-refills s i j = arrive-either s i j (λ (x : State). x .refills ≡ s .refills) refl λ a. refl
+
+pub arrive-table : (s : State) (i j : ℕ) → arriveOf s i j .state .table ≡ s .table
+arrive-table s i j = arrive-either s i j (λ (x : State). x .table ≡ s .table) refl λ a. refl
+
+-- and a tick not the table
+pub tick-table : (s : State) → stateAfter s .table ≡ s .table
+unfolding stateAfter
+tick-table s = refl

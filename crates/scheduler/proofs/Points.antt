@@ -1,0 +1,32 @@
+-- The points on the edge, all by computing. Assumes nothing.
+use mathlib.Core.Path.{refl}
+use Rattle.queue.specs.Row.{cellsOf, queueOf, cellsFor}
+use Rattle.queue.specs.Sound.{sameb, soundb}
+use Rattle.queue.specs.Holds.{holdsb}
+use Rattle.queue.specs.Calls.{insertOf, clockOf, takeOf}
+use Rattle.queue.proofs.Points.{queue-edge}
+use Rattle.table.specs.Sound.{tableb}
+use Rattle.scheduler.specs.Sound.{entryb, stateb}
+use Rattle.scheduler.specs.Choice.{wantsb, chosenOf, choiceOf}
+use Rattle.scheduler.specs.Arrive.{loadAfter, arriveOf}
+use Rattle.scheduler.specs.Tick.{charge, turnOf, served4, stateAfter, handledOf, againb, tickOf}
+use Rattle.scheduler.specs.Fresh.{freshQueue, freshEntry, freshState, freshOf}
+use Rattle.scheduler.specs.Edge.{SchedulerEdge}
+
+pub edge : SchedulerEdge
+unfolding insertOf clockOf takeOf holdsb soundb sameb cellsOf queueOf cellsFor tableb entryb stateb wantsb chosenOf choiceOf loadAfter arriveOf charge turnOf served4 stateAfter handledOf againb tickOf freshQueue freshEntry freshState freshOf
+edge =
+    record {
+      queue = queue-edge;
+      burned = refl;
+      full-accepted = refl;
+      full-says = refl;
+      full-load = refl;
+      over-accepted = refl;
+      over-says = refl;
+      over-load = refl;
+      setup-accepted = refl;
+      arrival-accepted = refl;
+      arrival-says = refl;
+      eight = refl;
+    }

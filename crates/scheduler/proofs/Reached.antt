@@ -1,0 +1,43 @@
+-- A task of a sound state, for an arrival at it. Assumes nothing.
+use mathlib.Core.Path.{_≡_}
+use mathlib.Core.Bool.{true}
+use mathlib.Core.List.{List}
+use Prim.Native.Nat.{ℕ, _≤_, _<_}
+use native.Mathlib.Omega.{arith}
+use lib.ListN.{length, getD, set}
+use Rattle.refusal.specs.Small.{alter}
+use Rattle.table.specs.Limits.{mostWork, entries}
+use Rattle.scheduler.specs.State.{mostPending, zeroLoad, serverAt, entryAt, taskAt}
+use Rattle.scheduler.specs.Sound.{stateb}
+use Rattle.scheduler.specs.Arrive.{loadAfter, withArrival, withLoads}
+use Rattle.scheduler.specs.declared.Entry.{Entry}
+use Rattle.scheduler.specs.declared.State.{State}
+use Rattle.scheduler.proofs.Lists.{set-alter}
+use Rattle.scheduler.proofs.Stated.{Eight, stated, entry-stated, server-stated, loads-below, below-at, work-below}
+
+-- its places are entries, and its work and what is pending are in range
+pub record Reached (s : State) (i j : ℕ) : Type 0 where
+  pub server : i < entries
+  pub task : j < entries
+  pub pending : getD (entryAt s i .loads) j zeroLoad .pending .0 ≤ mostPending
+  pub work : taskAt (serverAt s i) j .work .0 ≤ mostWork
+
+pub reached : (s : State) (i j : ℕ) → Eight s → stateb s ≡ true → i < s .table .count → j < serverAt s i .count → Reached s i j
+reached s i j z h k l =
+    let w = stated s z .0 h in
+    let few = w .servers .count in
+    let v = server-stated (serverAt s i) (w .servers .used i k) in
+    let e = entry-stated (serverAt s i) (entryAt s i) .0 (w .entry i (omega arith)) in
+    record {
+      server = omega arith;
+      task = omega (arith, v .count);
+      pending = below-at (entryAt s i .loads) (loads-below (entryAt s i .loads) (serverAt s i .count) (e .loads)) j;
+      work = work-below (serverAt s i .tasks) (serverAt s i .count) (v .tasks) j;
+    }
+
+-- the code's two stores, of the load and of its entry, are the arrival; z is what an entry past the end would be
+pub arrival-stored : (es : List Entry) (i j E : ℕ) (z : Entry) → let e = getD es i z in i < length es → j < length (e .loads)
+    → set es i (withLoads (set (e .loads) j (loadAfter E (getD (e .loads) j zeroLoad))) e) ≡ alter (λ (e : Entry). withLoads (withArrival E j (e .loads)) e) es i
+arrival-stored es i j E z h l =
+    let e = getD es i z in
+    rw (set-alter (loadAfter E) (e .loads) j zeroLoad l) (set-alter (λ (e : Entry). withLoads (withArrival E j (e .loads)) e) es i z h)

@@ -1,0 +1,250 @@
+-- Steps 3 and 4 of a tick for each task: its work, its arrivals and its lost count; an arrival; and the handled count. Assumes nothing.
+use mathlib.Core.Path.{_≡_, refl, sym, ap, _∙_}
+use mathlib.Core.Bool.{Bool, true, false, not}
+use mathlib.Core.List.{List, [], _∷_}
+use Prim.Native.Nat.{ℕ, zero, suc, _+_, _-_, _≤_, _<_}
+use native.Mathlib.Omega.{arith}
+use lib.Dec.{ltb, eqb}
+use lib.ListN.{length, getD}
+use borrow.Author.Tests.{ltb-false, ne-eqb, eqb-true, not-true, le-leb, lt-leb}
+use Rattle.refusal.specs.Small.{pick, both, alter}
+use Rattle.refusal.proofs.Small.{both-left, both-right, both-false, neither-right, contrary}
+use Rattle.queue.specs.Limits.{maxGap, longest}
+use Rattle.queue.specs.Row.{Event, eventsOf}
+use Rattle.queue.specs.Sound.{hasb, distinctb, soundb}
+use Rattle.queue.specs.Holds.{holdsb}
+use Rattle.queue.specs.Calls.{dueb, earlier}
+use Rattle.queue.specs.declared.Queue.{Queue}
+use Rattle.queue.proofs.Soundness.{sound-is}
+use Rattle.queue.proofs.Events.{not-due}
+use Rattle.queue.proofs.Refusals.{clock-accepted}
+use Rattle.queue.proofs.Keeps.{clock-sound, clock-events}
+use Rattle.table.specs.Limits.{entries}
+use Rattle.table.specs.Table.{periodOf, zeroServer}
+use Rattle.table.specs.declared.Server.{Server}
+use Rattle.scheduler.specs.State.{mostPending, load, zeroLoad, zeroEntry, serverAt, entryAt, taskAt}
+use Rattle.scheduler.specs.Sound.{taskReaches, serverReaches, entryb, entriesb, stateb}
+use Rattle.scheduler.specs.Choice.{firstPending, chosenOf, choiceOf}
+use Rattle.scheduler.specs.Arrive.{lostAfter, loadAfter, withArrival, withLoads, arriveOf}
+use Rattle.scheduler.specs.Tick.{lessWork, charge, clocked, dueIds, dueIn, withBudget, refilled, fullAt, arrivedLoads, served4, eachEntry, dueEvents, chargedEntries, stateAfter, handledOf}
+use Rattle.scheduler.specs.Meaning.{SizedState, loadAt, arrivalThere, arrivalAway, runsb, dueNext, allDueNext}
+use Rattle.scheduler.specs.declared.Load.{Load}
+use Rattle.scheduler.specs.declared.Entry.{Entry}
+use Rattle.scheduler.specs.declared.State.{State}
+use Rattle.scheduler.specs.declared.Choice.the-variants.{Idle, Burning, Running}
+use Rattle.scheduler.proofs.Lists.{length-alter}
+use Rattle.scheduler.proofs.Altered.{read-altered, alter-keeps}
+use Rattle.scheduler.proofs.Unchanged.{arrive-done}
+use Rattle.scheduler.proofs.Stated.{Stated, stated, entry-stated, every-server}
+use Rattle.scheduler.proofs.KeptSizes.{charge-count, refilled-length}
+use Rattle.scheduler.proofs.HeldEach.{HeldEach, held-each, held-rests}
+use Rattle.scheduler.proofs.Again.{inb, ids-in, one-away, Moved, held-due, held-moved}
+use Rattle.scheduler.proofs.TickSound.{taskPeriod, task-delayed, state-parts}
+
+-- THE DUE ARRIVALS OF ONE SERVER
+
+-- no id stands in the list twice
+abbrev Once : List ℕ → Type 0
+Once [] = Unit
+Once (id ∷ ids) = (inb id ids ≡ false) × Once ids
+
+due-once : (es : List Event) → distinctb es ≡ true → Once (dueIds es)
+due-once [] d = tt
+due-once (e ∷ es) d = go (eqb (e .at) 0) (due-once es rest)
+  where
+    rest : distinctb es ≡ true
+    rest = both-right (not (hasb (e .id) es)) _ d
+
+    gone : inb (e .id) (dueIds es) ≡ false
+    gone = ids-in (e .id) es rest ∙ rw (not-true (hasb (e .id) es) (both-left _ _ d))
+
+    go : (b : Bool) → Once (dueIds es) → Once (pick b (e .id ∷ dueIds es) (dueIds es))
+    go true r = (gone, r)
+    go false r = r
+
+-- a task's load takes its arrival where its id is one of those that are due
+arrived-at : (s : Server) (ids : List ℕ) (ls : List Load) (j : ℕ) → Once ids → j < length ls
+    → getD (arrivedLoads s ids ls) j zeroLoad ≡ pick (inb j ids) (loadAfter (taskAt s j .work .0) (getD ls j zeroLoad)) (getD ls j zeroLoad)
+arrived-at s [] ls j o l = refl
+arrived-at s (id ∷ ids) ls j o l =
+    let f = loadAfter (taskAt s id .work .0) in
+    arrived-at s ids (alter f ls id) j (o .1) (rw (length-alter f ls id) l)
+    ∙ rw (read-altered f ls id j zeroLoad l) (go (eqb id j) (inb j ids) refl refl)
+  where
+    x : Load
+    x = getD ls j zeroLoad
+
+    go : (b c : Bool) → eqb id j ≡ b → inb j ids ≡ c
+        → let y = pick b (loadAfter (taskAt s id .work .0) x) x in pick c (loadAfter (taskAt s j .work .0) y) y ≡ pick (pick b true c) (loadAfter (taskAt s j .work .0) x) x
+    go true true e m = contrary m (rw (← eqb-true id j e) (o .0))
+    go true false e m = rw (eqb-true id j e)
+    go false c e m = refl
+
+-- ONE ENTRY OF THE STATE
+
+pub each-at : (f : Server → Entry → Entry) (ss : List Server) (es : List Entry) (i : ℕ) → i < length ss → i < length es
+    → getD (eachEntry f ss es) i zeroEntry ≡ f (getD ss i zeroServer) (getD es i zeroEntry)
+each-at f [] es i l m = absurd (omega arith)
+each-at f (s ∷ ss) [] i l m = absurd (omega arith)
+each-at f (s ∷ ss) (e ∷ es) zero l m = refl
+each-at f (s ∷ ss) (e ∷ es) (suc i) l m = each-at f ss es i (omega arith) (omega arith)
+
+-- what a budget's change keeps
+refilled-keeps : {B : Type 0} (g : Entry → B) → ((n : ℕ) (e : Entry) → g (withBudget n e) ≡ g e) → (full : ℕ → ℕ) (ids : List ℕ) (es : List Entry) (i : ℕ)
+    → g (getD (refilled full ids es) i zeroEntry) ≡ g (getD es i zeroEntry)
+refilled-keeps g k full [] es i = refl
+refilled-keeps g k full (id ∷ ids) es i =
+    refilled-keeps g k full ids (alter (withBudget (full id)) es id) i ∙ alter-keeps (withBudget (full id)) g (k (full id)) es id i zeroEntry
+
+-- whom a choice runs
+runs-chosen : (s : State) (i j : ℕ) → i < entries → j < entries → runsb (choiceOf s) i j ≡ both (eqb (chosenOf s) i) (eqb (firstPending (entryAt s (chosenOf s) .loads)) j)
+unfolding choiceOf
+runs-chosen s i j l m = go (ltb k entries) (ltb n entries) refl refl
+  where
+    k : ℕ
+    k = chosenOf s
+
+    n : ℕ
+    n = firstPending (entryAt s k .loads)
+
+    go : (a b : Bool) → ltb k entries ≡ a → ltb n entries ≡ b → runsb (pick a (pick b (Running k n) (Burning k)) Idle) i j ≡ both (eqb k i) (eqb n j)
+    go true true p q = refl
+    go true false p q = rw (ne-eqb n j (λ e. omega (arith, ltb-false n entries q))) (sym (both-false (eqb k i)))
+    go false b p q = rw (ne-eqb k i (λ e. omega (arith, ltb-false k entries p)))
+
+module _ (s : State) (z : SizedState s) (h : stateb s ≡ true) (i : ℕ) (l : i < entries) where
+  parts : Stated s
+  parts = stated s record { servers = z .table .servers; entries = z .servers } .0 h
+
+  -- the entry before step 4
+  abbrev before : Entry
+  before = getD (refilled (fullAt s) (dueIn (s .refills)) (chargedEntries s)) i zeroEntry
+
+  after : entryAt (stateAfter s) i ≡ served4 (serverAt s i) before
+  unfolding stateAfter
+  after =
+      let n : length (refilled (fullAt s) (dueIn (s .refills)) (chargedEntries s)) ≡ entries = refilled-length (fullAt s) (dueIn (s .refills)) (chargedEntries s) ∙ length-alter charge (s .entries) (chosenOf s) ∙ z .servers in
+      each-at served4 (s .table .servers) _ i (omega (arith, z .table .servers)) (omega arith)
+
+  same-arrivals : before .arrivals ≡ entryAt s i .arrivals
+  unfolding charge
+  same-arrivals =
+      refilled-keeps (λ (e : Entry). e .arrivals) (λ n e. refl) (fullAt s) (dueIn (s .refills)) (chargedEntries s) i
+      ∙ alter-keeps charge (λ (e : Entry). e .arrivals) (λ e. refl) (s .entries) (chosenOf s) i zeroEntry
+
+  same-loads : before .loads ≡ getD (chargedEntries s) i zeroEntry .loads
+  same-loads = refilled-keeps (λ (e : Entry). e .loads) (λ n e. refl) (fullAt s) (dueIn (s .refills)) (chargedEntries s) i
+
+  full-loads : length (before .loads) ≡ entries
+  full-loads =
+      ap length same-loads
+      ∙ alter-keeps charge (λ (e : Entry). length (e .loads)) charge-count (s .entries) (chosenOf s) i zeroEntry
+      ∙ z .loads i l
+
+  queue : HeldEach (taskReaches (serverAt s i .tasks)) (entryAt s i .arrivals)
+  queue = held-each (taskReaches (serverAt s i .tasks)) (entryAt s i .arrivals) .0 (entry-stated (serverAt s i) (entryAt s i) .0 (parts .entry i l) .arrivals)
+
+  turned : Moved (taskPeriod (serverAt s i)) (entryAt s i .arrivals) (entryAt (stateAfter s) i .arrivals)
+  unfolding served4
+  turned =
+      let m = held-moved (taskPeriod (serverAt s i)) (taskReaches (serverAt s i .tasks)) (entryAt s i .arrivals) queue (λ j r. task-delayed (serverAt s i) (every-server (s .table) (parts .servers) i l) j r .1) in
+      rw (after, same-arrivals) m
+
+  -- "go in again T away", and every other comes 1 nearer: the same arrivals are there
+  pub tick-arrivals : (j : ℕ) → arrivalThere (stateAfter s) i j ≡ arrivalThere s i j
+  tick-arrivals = turned .same
+
+  pub tick-arrival : (j : ℕ) → arrivalThere s i j ≡ true
+      → arrivalAway (stateAfter s) i j ≡ pick (eqb (arrivalAway s i j) 1) (periodOf (taskAt (serverAt s i) j .release)) (arrivalAway s i j - 1)
+  tick-arrival = turned .moved
+
+  module _ (j : ℕ) (m : j < entries) where
+    -- after step 3
+    charged-load : getD (before .loads) j zeroLoad ≡ pick (runsb (choiceOf s) i j) (lessWork (loadAt s i j)) (loadAt s i j)
+    unfolding charge
+    charged-load =
+        let k = chosenOf s in
+        let e = entryAt s i in
+        rw (same-loads, read-altered charge (s .entries) k i zeroEntry (omega (arith, z .servers)), runs-chosen s i j l m) (go (eqb k i) refl)
+      where
+        go : (b : Bool) → eqb (chosenOf s) i ≡ b
+            → getD (pick b (charge (entryAt s i)) (entryAt s i) .loads) j zeroLoad ≡ pick (both b (eqb (firstPending (entryAt s (chosenOf s) .loads)) j)) (lessWork (loadAt s i j)) (loadAt s i j)
+        go true p =
+            rw (eqb-true (chosenOf s) i p)
+            (read-altered lessWork (entryAt s i .loads) (firstPending (entryAt s i .loads)) j zeroLoad (omega (arith, z .loads i l)))
+        go false p = refl
+
+    -- the task's arrival is due in the tick
+    abbrev pub arrives : Bool
+    arrives = both (arrivalThere s i j) (eqb (arrivalAway s i j) 1)
+
+    -- "The server's budget and the chosen task's work fall by 1." "Then due task arrivals, by server rank, add E": or it is lost (`load-lost`)
+    pub tick-load : let l = pick (runsb (choiceOf s) i j) (lessWork (loadAt s i j)) (loadAt s i j) in
+        loadAt (stateAfter s) i j ≡ pick arrives (loadAfter (taskAt (serverAt s i) j .work .0) l) l
+    unfolding served4
+    tick-load =
+        let q = entryAt s i .arrivals in
+        let c : soundb maxGap longest (clocked q) ≡ true = clock-sound maxGap longest q (omega arith) (queue .sound) in
+        let o : Once (dueIn q) = due-once (eventsOf (clocked q)) (sound-is maxGap longest (clocked q) c .distinct) in
+        rw (after, same-arrivals)
+        (arrived-at (serverAt s i) (dueIn q) (before .loads) j o (omega (arith, full-loads)) ∙ rw (charged-load, held-due (taskReaches (serverAt s i .tasks)) q queue j))
+
+-- AN ARRIVAL
+
+-- "add E"
+pub load-added : (E : ℕ) (l : Load) → l .pending .0 + E ≤ mostPending → loadAfter E l ≡ load (l .pending .0 + E) (l .lost)
+unfolding loadAfter
+load-added E l h = rw (le-leb (l .pending .0 + E) mostPending h)
+
+-- "An arrival whose E would bring pending work above 1,000,000 is lost and adds 1 to the task's lost count, which stops at 65,535."
+pub load-lost : (E : ℕ) (l : Load) → mostPending < l .pending .0 + E → loadAfter E l ≡ load (l .pending .0) (lostAfter (l .lost))
+unfolding loadAfter
+load-lost E l h = rw (lt-leb (l .pending .0 + E) mostPending h)
+
+-- an arrival call that is not refused: its task's load takes it, and every other load is as it was
+pub arrive-load : (s : State) → SizedState s → (i j : ℕ) → arriveOf s i j .refusal .number ≡ 0 → (k m : ℕ) → k < entries → m < entries
+    → loadAt (arriveOf s i j .state) k m ≡ pick (both (eqb i k) (eqb j m)) (loadAfter (taskAt (serverAt s i) j .work .0) (loadAt s k m)) (loadAt s k m)
+arrive-load s z i j a k m l n =
+    rw (arrive-done s i j a, read-altered f (s .entries) i k zeroEntry (omega (arith, z .servers))) (go (eqb i k))
+  where
+    E : ℕ
+    E = taskAt (serverAt s i) j .work .0
+
+    f : Entry → Entry
+    f e = withLoads (withArrival E j (e .loads)) e
+
+    go : (b : Bool) → getD (pick b (f (entryAt s k)) (entryAt s k) .loads) m zeroLoad ≡ pick (both b (eqb j m)) (loadAfter E (loadAt s k m)) (loadAt s k m)
+    go true = read-altered (loadAfter E) (entryAt s k .loads) j m zeroLoad (omega (arith, z .loads k l))
+    go false = refl
+
+-- THE HANDLED COUNT
+
+earlier-due : (es : List Event) → dueb es ≡ false → length (dueIds (earlier es)) ≡ dueNext es
+earlier-due [] d = refl
+earlier-due (e ∷ es) d =
+    let a : 1 ≤ e .at = not-due e es d in
+    rw (one-away (e .at - 1) (e .at) (omega arith)) (go (eqb (e .at) 1) (earlier-due es (neither-right (eqb (e .at) 0) _ d)))
+  where
+    go : (b : Bool) → length (dueIds (earlier es)) ≡ dueNext es → length (pick b (e .id ∷ dueIds (earlier es)) (dueIds (earlier es))) ≡ pick b 1 0 + dueNext es
+    go true r = omega arith
+    go false r = omega arith
+
+held-next : (reach : List ℕ) (q : Queue) → holdsb maxGap longest reach q ≡ true → length (dueIn q) ≡ dueNext (eventsOf q)
+held-next reach q h =
+    let k = held-each reach q .0 h in
+    let n = held-rests reach q k in
+    let e : eventsOf (clocked q) ≡ earlier (eventsOf q) = clock-events maxGap longest q (omega arith) (clock-accepted maxGap longest q .1 (k .sound, n)) in
+    rw e (earlier-due (eventsOf q) n)
+
+entries-next : (ss : List Server) (es : List Entry) → length es ≤ length ss → entriesb ss es ≡ true → dueEvents es ≡ allDueNext es
+entries-next ss [] l h = refl
+entries-next [] (e ∷ es) l h = absurd (omega arith)
+entries-next (s ∷ ss) (e ∷ es) l h =
+    rw (held-next (taskReaches (s .tasks)) (e .arrivals) (entry-stated s e .0 (both-left _ _ h) .arrivals), entries-next ss es (omega arith) (both-right (entryb s e) _ h))
+
+-- "how many events it handled: replenishments and arrivals, lost ones included. That count equals the events due in step 4."
+pub tick-handled : (s : State) → SizedState s → stateb s ≡ true → handledOf s ≡ dueNext (eventsOf (s .refills)) + allDueNext (s .entries)
+unfolding handledOf
+tick-handled s z h =
+    let p = state-parts s .0 h in
+    rw (held-next (serverReaches (s .table .servers)) (s .refills) (p .refills), entries-next (s .table .servers) (s .entries) (omega (arith, z .table .servers, z .servers)) (p .entries))

@@ -1,0 +1,325 @@
+-- A sound state stays sound under a tick and an arrival, and the tick finds room for every event that is due. No array's length is assumed: what
+-- is past the table's count is zero, and so has no event. Assumes nothing.
+use mathlib.Core.Path.{_≡_, refl, sym, _∙_}
+use mathlib.Core.Bool.{Bool, true, false}
+use mathlib.Core.List.{List, [], _∷_}
+use mathlib.Core.Logic.{_↔_, _≢_}
+use Prim.Native.Nat.{ℕ, zero, suc, _+_, _-_, _≤_, _<_}
+use native.Mathlib.Omega.{arith}
+use lib.Dec.{leb, ltb, eqb}
+use lib.ListN.{getD}
+use borrow.Author.Tests.{ltb-true, leb-true, le-leb, eq-eqb, eqb-true}
+use Rattle.refusal.specs.Small.{pick, alter}
+use Rattle.refusal.specs.Numbers.{noRoomAgain}
+use Rattle.refusal.specs.Refusal.{none}
+use Rattle.refusal.proofs.Small.{both-left, both-right, contrary}
+use Rattle.queue.specs.Limits.{maxGap, longest}
+use Rattle.queue.specs.Holds.{holdsb}
+use Rattle.queue.proofs.DueTimes.{there}
+use Rattle.table.specs.Limits.{mostWork, entries}
+use Rattle.table.specs.Table.{periodOf, zeroTask, zeroServer}
+use Rattle.table.specs.Sound.{rangeb, usedb, releaseb, taskb, arrivalb, zeroTaskb, serverb, zeroServerb, tableb}
+use Rattle.table.specs.declared.Release.{Release}
+use Rattle.table.specs.declared.Release.the-variants.{OnArrival, Periodic}
+use Rattle.table.specs.declared.Task.{Task}
+use Rattle.table.specs.declared.Server.{Server}
+use Rattle.table.specs.declared.Table.{Table}
+use Rattle.table.proofs.Soundness.{range-within}
+use Rattle.scheduler.specs.State.{mostPending, mostLost, load, serverAt, taskAt}
+use Rattle.scheduler.specs.Sound.{releaseReach, taskReaches, serverReaches, loadb, zeroLoadb, entryb, entriesb, stateb}
+use Rattle.scheduler.specs.Choice.{firstPending, chosenOf, choiceOf}
+use Rattle.scheduler.specs.Arrive.{fitsb, lostAfter, loadAfter, withArrival, withLoads, arrivedState, arriveOf}
+use Rattle.scheduler.specs.Tick.{lessWork, charge, dueIn, roomb, withBudget, refilled, periodAt, refillsTurn, arrivedLoads, arrivalsTurn, served4, eachEntry, allRoomb, chargedEntries, stateAfter, handledOf, againb, tickedWith, tickOf}
+use Rattle.scheduler.specs.Run.{stateAfterTicks, ticksIn, runOf}
+use Rattle.scheduler.specs.declared.Load.{Load}
+use Rattle.scheduler.specs.declared.Entry.{Entry}
+use Rattle.scheduler.specs.declared.State.{State}
+use Rattle.scheduler.proofs.Altered.{used-any, used-one}
+use Rattle.scheduler.proofs.Stated.{EntryStated, entry-stated, ServerStated, server-stated, zero-stated, server-reach, task-reach}
+use Rattle.scheduler.proofs.Turns.{in-use}
+use Rattle.scheduler.proofs.Refusals.{tick-30, tick-accepted, arrive-accepted, run-accepted}
+use Rattle.scheduler.proofs.Unchanged.{tick-done, arrive-either, run-done}
+use Rattle.scheduler.proofs.HeldEach.{HeldEach, held-each, held-reached}
+use Rattle.scheduler.proofs.Again.{inb, Delayed, held-accepted, held-again, held-due}
+
+-- LOADS
+
+less-load : (l : Load) → loadb l ≡ true → loadb (lessWork l) ≡ true
+less-load l h =
+    let p : l .pending .0 ≤ mostPending = leb-true _ mostPending (both-left _ _ h) in
+    rw (le-leb (l .pending .0 - 1) mostPending (omega arith)) (both-right (leb (l .pending .0) mostPending) _ h)
+
+less-zero : (l : Load) → zeroLoadb l ≡ true → zeroLoadb (lessWork l) ≡ true
+less-zero l h =
+    let p : l .pending .0 ≡ 0 = eqb-true _ 0 (both-left _ _ h) in
+    rw (eq-eqb (l .pending .0 - 1) 0 (omega arith)) (both-right (eqb (l .pending .0) 0) _ h)
+
+-- "which stops at 65,535"
+lost-stops : (n : ℕ) → n ≤ mostLost → lostAfter n ≤ mostLost
+lost-stops n h = go (ltb n mostLost) refl
+  where
+    go : (b : Bool) → ltb n mostLost ≡ b → pick b (n + 1) n ≤ mostLost
+    go true p = omega (arith, ltb-true n mostLost p)
+    go false p = h
+
+arrival-load : (E : ℕ) (l : Load) → loadb l ≡ true → loadb (loadAfter E l) ≡ true
+unfolding loadAfter
+arrival-load E l h = go (fitsb E l) refl
+  where
+    lost : leb (l .lost) mostLost ≡ true
+    lost = both-right (leb (l .pending .0) mostPending) _ h
+
+    go : (b : Bool) → fitsb E l ≡ b → loadb (pick b (load (l .pending .0 + E) (l .lost)) (load (l .pending .0) (lostAfter (l .lost)))) ≡ true
+    go true p = rw (p, lost)
+    go false p = rw (both-left (leb (l .pending .0) mostPending) _ h, le-leb (lostAfter (l .lost)) mostLost (lost-stops (l .lost) (leb-true (l .lost) mostLost lost)))
+
+-- arrivals of tasks in use
+arrived-used : (s : Server) (n : ℕ) (ids : List ℕ) (ls : List Load) → ((j : ℕ) → inb j ids ≡ true → j < n)
+    → usedb loadb zeroLoadb ls n ≡ true → usedb loadb zeroLoadb (arrivedLoads s ids ls) n ≡ true
+arrived-used s n [] ls u h = h
+arrived-used s n (id ∷ ids) ls u h =
+    arrived-used s n ids _ rest (used-one (loadAfter (taskAt s id .work .0)) loadb zeroLoadb (arrival-load (taskAt s id .work .0)) ls n id (u id (rw (eq-eqb id id refl))) h)
+  where
+    rest : (j : ℕ) → inb j ids ≡ true → j < n
+    rest j k = u j (go (eqb id j))
+      where
+        go : (b : Bool) → pick b true (inb j ids) ≡ true
+        go true = refl
+        go false = k
+
+-- ONE SERVER'S ENTRY
+
+pub charge-sound : (s : Server) (e : Entry) → entryb s e ≡ true → entryb s (charge e) ≡ true
+unfolding charge
+charge-sound s e h =
+    let p = entry-stated s e .0 h in
+    entry-stated s (charge e) .1 record {
+      budget = omega (arith, p .budget);
+      loads = used-any lessWork loadb zeroLoadb less-load less-zero (e .loads) (s .count) (firstPending (e .loads)) (p .loads);
+      arrivals = p .arrivals;
+    }
+
+pub fill-sound : (s : Server) (e : Entry) → entryb s e ≡ true → entryb s (withBudget (s .budget .0) e) ≡ true
+fill-sound s e h =
+    let p = entry-stated s e .0 h in
+    entry-stated s (withBudget (s .budget .0) e) .1 record { budget = omega arith; loads = p .loads; arrivals = p .arrivals }
+
+-- an arrival of a task in use
+load-sound : (s : Server) (E j : ℕ) → j < s .count → (e : Entry) → entryb s e ≡ true → entryb s (withLoads (withArrival E j (e .loads)) e) ≡ true
+load-sound s E j l e h =
+    let p = entry-stated s e .0 h in
+    entry-stated s (withLoads (withArrival E j (e .loads)) e) .1 record {
+      budget = p .budget;
+      loads = used-one (loadAfter E) loadb zeroLoadb (arrival-load E) (e .loads) (s .count) j l (p .loads);
+      arrivals = p .arrivals;
+    }
+
+-- a release that has a reach: its period is 1 to that
+release-reach : (r : Release) → 1 ≤ releaseReach r → releaseb longest r ≡ true → (1 ≤ periodOf r) × ((periodOf r ≤ releaseReach r) × (releaseReach r ≤ longest))
+release-reach OnArrival h u = absurd (omega arith)
+release-reach (Periodic T O) h u =
+    let w = range-within 1 longest (T .0) .0 (both-left _ _ u) in
+    let o : O .0 ≤ longest = leb-true (O .0) longest (both-right (rangeb 1 longest (T .0)) _ u) in
+    (w .low, go (leb (T .0) (O .0)) refl o (w .high))
+  where
+    go : (b : Bool) → leb (T .0) (O .0) ≡ b → O .0 ≤ longest → T .0 ≤ longest → (T .0 ≤ pick b (O .0) (T .0)) × (pick b (O .0) (T .0) ≤ longest)
+    go true p o t = (leb-true (T .0) (O .0) p, o)
+    go false p o t = (omega arith, t)
+
+zero-reach : (t : Task) → zeroTaskb t ≡ true → releaseReach (t .release) ≡ 0
+zero-reach t h = go (t .release) (both-right (eqb (t .work .0) 0) _ h)
+  where
+    go : (r : Release) → arrivalb r ≡ true → releaseReach r ≡ 0
+    go OnArrival a = refl
+    go (Periodic T O) a = contrary a refl
+
+-- T away: how far a task's arrival is put in again
+abbrev pub taskPeriod : Server → ℕ → ℕ
+taskPeriod s id = periodOf (taskAt s id .release)
+
+module _ (s : Server) (k : ServerStated s) where
+  -- a task that has arrivals of its own is in use, and its period is in reach
+  pub task-delayed : (j : ℕ) → 1 ≤ getD (taskReaches (s .tasks)) j 0 → (j < s .count) × Delayed (taskPeriod s) (taskReaches (s .tasks)) j
+  task-delayed j h =
+      let e = task-reach (s .tasks) j in
+      let u = in-use (taskb longest mostWork) zeroTaskb zeroTask refl (s .tasks) (s .count) j (k .tasks) (λ z. omega (arith, zero-reach (taskAt s j) z)) in
+      let r = release-reach (taskAt s j .release) (omega arith) (both-right (rangeb 1 mostWork (taskAt s j .work .0)) _ (u .1)) in
+      (u .0, record { place = omega (arith, u .0, k .count); low = r .0; high = omega (arith, r .1 .0); near = omega (arith, r .1 .1) })
+
+  module _ (e : Entry) (h : entryb s e ≡ true) where
+    parts : EntryStated s e
+    parts = entry-stated s e .0 h
+
+    queue : HeldEach (taskReaches (s .tasks)) (e .arrivals)
+    queue = held-each (taskReaches (s .tasks)) (e .arrivals) .0 (parts .arrivals)
+
+    -- every arrival that is due finds room
+    serve-room : roomb (arrivalsTurn s e) ≡ true
+    serve-room =
+        eq-eqb _ 0 (held-accepted (taskPeriod s) (taskReaches (s .tasks)) (e .arrivals) queue (λ j m. task-delayed j m .1))
+
+    serve-sound : entryb s (served4 s e) ≡ true
+    unfolding served4
+    serve-sound =
+        entry-stated s (served4 s e) .1 record {
+          budget = parts .budget;
+          loads = arrived-used s (s .count) (dueIn (e .arrivals)) (e .loads) used (parts .loads);
+          arrivals =
+              held-each (taskReaches (s .tasks)) (arrivalsTurn s e .queue) .1
+              (held-again (taskPeriod s) (taskReaches (s .tasks)) (e .arrivals) queue (λ j m. task-delayed j m .1));
+        }
+      where
+        used : (j : ℕ) → inb j (dueIn (e .arrivals)) ≡ true → j < s .count
+        used j d =
+            let t : there j (e .arrivals) ≡ true = both-left _ _ (sym (held-due (taskReaches (s .tasks)) (e .arrivals) queue j) ∙ d) in
+            task-delayed j (held-reached (taskReaches (s .tasks)) (e .arrivals) queue j t) .0
+
+-- ALL ENTRIES
+
+-- one changed, as its server allows
+entries-one : (f : Entry → Entry) (ss : List Server) (es : List Entry) (i : ℕ)
+    → ((e : Entry) → entryb (getD ss i zeroServer) e ≡ true → entryb (getD ss i zeroServer) (f e) ≡ true) → entriesb ss es ≡ true → entriesb ss (alter f es i) ≡ true
+entries-one f [] es i k h = refl
+entries-one f (s ∷ ss) [] i k h = refl
+entries-one f (s ∷ ss) (e ∷ es) zero k h = rw (k e (both-left _ _ h)) (both-right (entryb s e) _ h)
+entries-one f (s ∷ ss) (e ∷ es) (suc i) k h = rw (both-left (entryb s e) _ h) (entries-one f ss es i k (both-right (entryb s e) _ h))
+
+-- C of the server at a place
+abbrev fullIn : List Server → ℕ → ℕ
+fullIn ss i = getD ss i zeroServer .budget .0
+
+entries-refilled : (ss : List Server) (ids : List ℕ) (es : List Entry) → entriesb ss es ≡ true → entriesb ss (refilled (fullIn ss) ids es) ≡ true
+entries-refilled ss [] es h = h
+entries-refilled ss (id ∷ ids) es h = entries-refilled ss ids _ (entries-one (withBudget (fullIn ss id)) ss es id (fill-sound (getD ss id zeroServer)) h)
+
+-- what is known of every server of a table, in use or not
+abbrev pub Every : List Server → Type 0
+Every [] = Unit
+Every (s ∷ ss) = ServerStated s × Every ss
+
+every : (ss : List Server) (n : ℕ) → usedb (serverb longest mostWork) zeroServerb ss n ≡ true → Every ss
+every [] n h = tt
+every (s ∷ ss) zero h = (zero-stated s (both-left _ _ h), every ss zero (both-right (zeroServerb s) _ h))
+every (s ∷ ss) (suc n) h = (server-stated s (both-left _ _ h), every ss n (both-right (serverb longest mostWork s) _ h))
+
+entries-served : (ss : List Server) (es : List Entry) → Every ss → entriesb ss es ≡ true → entriesb ss (eachEntry served4 ss es) ≡ true
+entries-served [] es k h = refl
+entries-served (s ∷ ss) [] k h = refl
+entries-served (s ∷ ss) (e ∷ es) k h = rw (serve-sound s (k .0) e (both-left _ _ h)) (entries-served ss es (k .1) (both-right (entryb s e) _ h))
+
+entries-room : (ss : List Server) (es : List Entry) → Every ss → entriesb ss es ≡ true → allRoomb ss es ≡ true
+entries-room [] es k h = refl
+entries-room (s ∷ ss) [] k h = refl
+entries-room (s ∷ ss) (e ∷ es) k h = rw (serve-room s (k .0) e (both-left _ _ h)) (entries-room ss es (k .1) (both-right (entryb s e) _ h))
+
+-- THE STATE
+
+-- what its test says of its parts
+pub record Parts (s : State) : Type 0 where
+  pub table : tableb longest mostWork (s .table) ≡ true
+  pub entries : entriesb (s .table .servers) (s .entries) ≡ true
+  pub refills : holdsb maxGap longest (serverReaches (s .table .servers)) (s .refills) ≡ true
+
+pub state-parts : (s : State) → stateb s ≡ true ↔ Parts s
+unfolding stateb
+state-parts s = (
+  λ h.
+      let r = both-right (tableb longest mostWork (s .table)) _ h in
+      record { table = both-left _ _ h; entries = both-left _ _ r; refills = both-right (entriesb (s .table .servers) (s .entries)) _ r },
+  λ h. rw (h .table, h .entries) (h .refills),
+)
+
+-- THE TABLE
+
+-- how far server i's replenishment is put in again
+abbrev pub periodIn : List Server → ℕ → ℕ
+periodIn ss i = getD ss i zeroServer .period .0
+
+module _ (t : Table) (h : tableb longest mostWork t ≡ true) where
+  pub table-used : usedb (serverb longest mostWork) zeroServerb (t .servers) (t .count) ≡ true
+  unfolding tableb
+  table-used = both-right (rangeb 1 entries (t .count)) _ h
+
+  pub table-every : Every (t .servers)
+  table-every = every (t .servers) (t .count) table-used
+
+  pub table-few : t .count ≤ entries
+  unfolding tableb
+  table-few = range-within 1 entries (t .count) .0 (both-left _ _ h) .high
+
+  -- a server that has replenishments is in use
+  pub server-delayed : (j : ℕ) → 1 ≤ getD (serverReaches (t .servers)) j 0 → Delayed (periodIn (t .servers)) (serverReaches (t .servers)) j
+  server-delayed j r =
+      let s = getD (t .servers) j zeroServer in
+      let e = server-reach (t .servers) j in
+      let zero : zeroServerb s ≡ true → ⊥ = λ z. omega (arith, eqb-true (s .period .0) 0 (both-left _ _ (both-right (eqb (s .kind) 0) _ z))) in
+      let u = in-use (serverb longest mostWork) zeroServerb zeroServer refl (t .servers) (t .count) j table-used zero in
+      record { place = omega (arith, u .0, table-few); low = omega arith; high = omega arith; near = omega (arith, server-stated s (u .1) .period) }
+
+-- A TICK AND AN ARRIVAL
+
+module _ (s : State) (h : stateb s ≡ true) where
+  state : Parts s
+  state = state-parts s .0 h
+
+  pub refills-each : HeldEach (serverReaches (s .table .servers)) (s .refills)
+  refills-each = held-each (serverReaches (s .table .servers)) (s .refills) .0 (state .refills)
+
+  -- every event that is due in the tick finds room
+  pub tick-room : againb s ≡ true
+  unfolding againb
+  tick-room =
+      rw
+      (eq-eqb _ 0 (held-accepted (periodAt s) (serverReaches (s .table .servers)) (s .refills) refills-each (server-delayed (s .table) (state .table))))
+      (entries-room (s .table .servers) (s .entries) (table-every (s .table) (state .table)) (state .entries))
+
+  -- A SOUND STATE STAYS SOUND under a tick
+  pub tick-sound : stateb (stateAfter s) ≡ true
+  unfolding stateAfter
+  tick-sound =
+      let ss = s .table .servers in
+      let a = entries-one charge ss (s .entries) (chosenOf s) (charge-sound (serverAt s (chosenOf s))) (state .entries) in
+      let b = entries-refilled ss (dueIn (s .refills)) (chargedEntries s) a in
+      state-parts (stateAfter s) .1 record {
+        table = state .table;
+        entries = entries-served ss _ (table-every (s .table) (state .table)) b;
+        refills = held-each (serverReaches ss) (refillsTurn s .queue) .1 (held-again (periodAt s) (serverReaches ss) (s .refills) refills-each (server-delayed (s .table) (state .table)));
+      }
+
+  pub tick-accepts : tickOf s ≡ tickedWith none (choiceOf s) (handledOf s) (stateAfter s)
+  tick-accepts = tick-done s (tick-accepted s .1 (h, tick-room))
+
+  pub ticked-sound : stateb (tickOf s .state) ≡ true
+  ticked-sound = rw tick-accepts tick-sound
+
+  -- AND UNDER AN ARRIVAL, accepted, lost or refused
+  pub arrive-sound : (i j : ℕ) → stateb (arriveOf s i j .state) ≡ true
+  arrive-sound i j = arrive-either s i j (λ (x : State). stateb x ≡ true) h next
+    where
+      E : ℕ
+      E = taskAt (serverAt s i) j .work .0
+
+      next : arriveOf s i j .refusal .number ≡ 0 → stateb (arrivedState s i j) ≡ true
+      next a =
+          state-parts (arrivedState s i j) .1 record {
+            table = state .table;
+            entries = entries-one (λ (e : Entry). withLoads (withArrival E j (e .loads)) e) (s .table .servers) (s .entries) i (load-sound (serverAt s i) E j (arrive-accepted s i j .0 a .2)) (state .entries);
+            refills = state .refills;
+          }
+
+-- 30 IS NEVER GIVEN: 8 events and 15 fillers are 23 cells
+pub never-30 : (s : State) → tickOf s .refusal .number ≢ noRoomAgain
+never-30 s e = let r = tick-30 s .0 e in contrary (tick-room s (r .0)) (r .1)
+
+-- so a tick is refused exactly where the state is not sound
+pub tick-sound-accepted : (s : State) → tickOf s .refusal .number ≡ 0 ↔ (stateb s ≡ true)
+tick-sound-accepted s = (λ e. tick-accepted s .0 e .0, λ h. tick-accepted s .1 (h, tick-room s h))
+
+-- A RUN OF TICKS
+
+pub ticks-sound : (k : ℕ) (s : State) → stateb s ≡ true → stateb (stateAfterTicks k s) ≡ true
+ticks-sound zero s h = h
+ticks-sound (suc k) s h = ticks-sound k (tickOf s .state) (ticked-sound s h)
+
+pub run-sound : (s : State) (k : ℕ) → stateb s ≡ true → stateb (runOf s k .state) ≡ true
+run-sound s k h = rw (run-done s k (run-accepted s k .1 h)) (ticks-sound (ticksIn k) s h)

@@ -1,0 +1,10 @@
+pub mod State
+pub mod Sound
+pub mod Choice
+pub mod Arrive
+pub mod Tick
+pub mod Run
+pub mod Fresh
+pub mod Moves
+pub mod Meaning
+pub mod Edge

@@ -1,0 +1,103 @@
+-- The words of document 01 that the laws of a state are stated in.
+use mathlib.Core.Path.{_≡_}
+use mathlib.Core.Bool.{Bool, true, false}
+use mathlib.Core.List.{List, [], _∷_}
+use Prim.Native.Nat.{ℕ, _+_, _-_, _<_}
+use lib.Dec.{eqb}
+use lib.ListN.{length, getD}
+use Rattle.refusal.specs.Small.{pick, both}
+use Rattle.queue.specs.Row.{Event, eventsOf}
+use Rattle.queue.specs.Sound.{hasb}
+use Rattle.queue.specs.Calls.{distanceOf}
+use Rattle.table.specs.Limits.{entries}
+use Rattle.table.specs.Meaning.{Sized}
+use Rattle.scheduler.specs.State.{zeroLoad, serverAt, entryAt}
+use Rattle.scheduler.specs.Choice.{pendingb, readyb, choiceOf, servesb}
+use Rattle.scheduler.specs.Tick.{periodAt, fullAt}
+use Rattle.scheduler.specs.declared.Load.{Load}
+use Rattle.scheduler.specs.declared.Entry.{Entry}
+use Rattle.scheduler.specs.declared.State.{State}
+use Rattle.scheduler.specs.declared.Choice.{Choice}
+use Rattle.scheduler.specs.declared.Choice.the-variants.{Idle, Burning, Running}
+
+-- "eight server entries, each with eight task entries": every state of the code has them; an array of a struct is a bare list here
+pub record SizedState (s : State) : Type 0 where
+  pub table : Sized (s .table)
+  pub servers : length (s .entries) ≡ entries
+  pub loads : (i : ℕ) → i < entries → length (entryAt s i .loads) ≡ entries
+
+-- server i wants the tick and has budget
+abbrev pub readyAt : State → ℕ → Bool
+readyAt s i = readyb (serverAt s i .kind) (entryAt s i)
+
+-- the load of task j of server i; whether it has work pending; whether it has an arrival of its own, and how far that is away
+
+abbrev pub loadAt : State → ℕ → ℕ → Load
+loadAt s i j = getD (entryAt s i .loads) j zeroLoad
+
+abbrev pub pendingAt : State → ℕ → ℕ → Bool
+pendingAt s i j = pendingb (loadAt s i j)
+
+abbrev pub arrivalThere : State → ℕ → ℕ → Bool
+arrivalThere s i j = hasb j (eventsOf (entryAt s i .arrivals))
+
+abbrev pub arrivalAway : State → ℕ → ℕ → ℕ
+arrivalAway s i j = distanceOf j (eventsOf (entryAt s i .arrivals))
+
+-- server i's budget, and how far its replenishment is away
+
+abbrev pub budgetAt : State → ℕ → ℕ
+budgetAt s i = entryAt s i .budget .0
+
+abbrev pub refillAway : State → ℕ → ℕ
+refillAway s i = distanceOf i (eventsOf (s .refills))
+
+-- the tick serves task j of server i
+abbrev pub runsb : Choice → ℕ → ℕ → Bool
+runsb Idle i j = false
+runsb (Burning k) i j = false
+runsb (Running k m) i j = both (eqb k i) (eqb m j)
+
+-- "The highest server that wants and has budget"
+pub record Highest (s : State) (k : ℕ) : Type 0 where
+  pub used : k < s .table .count
+  pub ready : readyAt s k ≡ true
+  pub above : (i : ℕ) → i < k → readyAt s i ≡ false
+
+-- "the first task with pending work"
+pub record FirstTask (s : State) (k j : ℕ) : Type 0 where
+  pub used : j < serverAt s k .count
+  pub pending : pendingAt s k j ≡ true
+  pub above : (i : ℕ) → i < j → pendingAt s k i ≡ false
+
+-- "An idling server without work"
+pub record WithoutWork (s : State) (k : ℕ) : Type 0 where
+  pub idling : serverAt s k .kind ≡ 1
+  pub none : (j : ℕ) → pendingAt s k j ≡ false
+
+-- "The highest server that wants and has budget is chosen; none: idle. In it, the first task with pending work is chosen. An idling server without work
+-- burns the tick."
+abbrev pub Chosen : State → Choice → Type 0
+Chosen s Idle = (i : ℕ) → readyAt s i ≡ false
+Chosen s (Burning k) = Highest s k × WithoutWork s k
+Chosen s (Running k j) = Highest s k × FirstTask s k j
+
+-- What a tick does to server i. "The server's budget and the chosen task's work fall by 1": where it is served; its replenishment comes 1 nearer
+pub record Spent (s next : State) (i : ℕ) : Type 0 where
+  pub budget : budgetAt next i ≡ budgetAt s i - pick (servesb (choiceOf s) i) 1 0
+  pub refill : refillAway next i ≡ refillAway s i - 1
+
+-- "Due replenishments set the budget to C and are put in again P away."
+pub record Filled (s next : State) (i : ℕ) : Type 0 where
+  pub budget : budgetAt next i ≡ fullAt s i
+  pub refill : refillAway next i ≡ periodAt s i
+
+-- how many events of a queue are 1 away, and of all servers' queues: those are "the events due in step 4"
+
+abbrev pub dueNext : List Event → ℕ
+dueNext [] = 0
+dueNext (e ∷ es) = pick (eqb (e .at) 1) 1 0 + dueNext es
+
+abbrev pub allDueNext : List Entry → ℕ
+allDueNext [] = 0
+allDueNext (e ∷ es) = dueNext (eventsOf (e .arrivals)) + allDueNext es

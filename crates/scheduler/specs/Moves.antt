@@ -1,0 +1,123 @@
+-- What the private functions give. No promise is stated by these: they stand between the code's loops and the definitions.
+use mathlib.Core.Path.{_≡_}
+use mathlib.Core.Bool.{Bool, true, false}
+use mathlib.Core.List.{List, [], _∷_}
+use Prim.Native.Nat.{ℕ, _+_, _≤_, _<_}
+use lib.Dec.{leb}
+use lib.ListN.{length, getD, replicate}
+use Rattle.refusal.specs.Small.{pick, both, alter}
+use Rattle.queue.specs.Limits.{maxGap, longest}
+use Rattle.queue.specs.Row.{Event, eventsOf}
+use Rattle.queue.specs.Sound.{soundb}
+use Rattle.queue.specs.Calls.{acceptedWith}
+use Rattle.queue.specs.Steps.{firstCell, dueStep, restStep, placeStep}
+use Rattle.queue.specs.declared.Queue.{Queue}
+use Rattle.table.specs.Limits.{mostWork, entries}
+use Rattle.table.specs.Table.{zeroServer, periodOf}
+use Rattle.table.specs.Sound.{tasksb, tableb}
+use Rattle.table.specs.declared.Server.{Server}
+use Rattle.table.specs.declared.Table.{Table}
+use Rattle.scheduler.specs.State.{mostPending, taskAt}
+use Rattle.scheduler.specs.Arrive.{withArrival}
+use Rattle.scheduler.specs.Tick.{charge, withBudget, dueIds, dueIn, again, arrivedLoads, served4, turnOf}
+use Rattle.scheduler.specs.declared.Load.{Load}
+use Rattle.scheduler.specs.declared.Entry.{Entry}
+use Rattle.scheduler.specs.declared.EntryTurn.{EntryTurn}
+use Rattle.scheduler.specs.declared.RefillsTurn.{RefillsTurn}
+
+-- the first event of a queue, which is due, put in again its delay away
+abbrev pub requeued : (ℕ → ℕ) → Queue → Queue
+requeued delay q = placeStep maxGap (restStep q) (firstCell q .id) (delay (firstCell q .id)) .queue
+
+-- every event of a list is one of these ids
+abbrev pub allOf : (ℕ → Type 0) → List Event → Type 0
+allOf P [] = Unit
+allOf P (e ∷ es) = P (e .id) × allOf P es
+
+-- a queue whose events can be put in again: sound, of at most 8 events, each of a place whose delay is 1 to the longest distance
+pub record Turning (delay : ℕ → ℕ) (q : Queue) : Type 0 where
+  pub sound : soundb maxGap longest q ≡ true
+  pub few : length (eventsOf q) ≤ entries
+  pub each : allOf (λ (id : ℕ). (id < entries) × ((1 ≤ delay id) × (delay id ≤ longest))) (eventsOf q)
+
+abbrev pub taskDelay : Server → ℕ → ℕ
+taskDelay s id = periodOf (taskAt s id .release)
+
+-- the loads can take an arrival of every task
+abbrev pub pendingBelow : List Load → Type 0
+pendingBelow [] = Unit
+pendingBelow (l ∷ ls) = (l .pending .0 ≤ mostPending) × pendingBelow ls
+
+-- what holds of every server of a sound table, in use or zero: its period is in range, and its tasks, at most 8; the others are zero
+unfoldable pub tabledb : Server → Bool
+tabledb s = both (leb (s .count) entries) (both (leb (s .period .0) longest) (tasksb longest mostWork s))
+
+-- a server's entry whose queue has been clocked, and may have events due
+pub record Clocked (s : Server) (e : Entry) : Type 0 where
+  pub server : tabledb s ≡ true
+  pub turning : Turning (taskDelay s) (e .arrivals)
+  pub loads : pendingBelow (e .loads)
+
+-- and has one
+pub record Arriving (s : Server) (e : Entry) : Type 0 where
+  pub clocked : Clocked s e
+  pub due : dueStep (e .arrivals) ≡ true
+
+unfoldable pub oneArrival : Server → Entry → Entry
+oneArrival s e = record {
+  loads = withArrival (taskAt s (firstCell (e .arrivals) .id) .work .0) (firstCell (e .arrivals) .id) (e .loads);
+  arrivals = requeued (taskDelay s) (e .arrivals);
+  budget = e .budget;
+}
+
+-- the due events of a queue that has been clocked, handled
+unfoldable pub dueTurn : Server → Entry → EntryTurn
+dueTurn s e = record {
+  entry = record {
+    loads = arrivedLoads s (dueIds (eventsOf (e .arrivals))) (e .loads);
+    arrivals = again (taskDelay s) (dueIds (eventsOf (e .arrivals))) (acceptedWith (e .arrivals)) .queue;
+    budget = e .budget;
+  };
+  handled = length (dueIds (eventsOf (e .arrivals)));
+}
+
+abbrev pub withQueue : Queue → Entry → Entry
+withQueue q e = record { loads = e .loads; arrivals = q; budget = e .budget }
+
+-- step 4 for one server's queue: its entry after it, and how many of its events were due
+unfoldable pub servedTurn : Server → Entry → EntryTurn
+servedTurn s e = record { entry = served4 s e; handled = length (dueIn (e .arrivals)) }
+
+-- the entry after the charge where it is chosen and the refill where that is due
+abbrev pub before4 : ℕ → Bool → Bool → Entry → Entry
+before4 full chosen due e = pick due (withBudget full (pick chosen (charge e) e)) (pick chosen (charge e) e)
+
+-- flags of the ids in a list
+abbrev pub flagged : List ℕ → List Bool → List Bool
+flagged [] bs = bs
+flagged (id ∷ ids) bs = flagged ids (alter (λ (b : Bool). true) bs id)
+
+-- step 4 for the replenishments: the queue, whose budgets are set, and how many were due
+unfoldable pub refillsTurnOf : (ℕ → ℕ) → Queue → RefillsTurn
+refillsTurnOf period q = record {
+  full = flagged (dueIn q) (replicate entries false);
+  queue = turnOf period q .queue;
+  handled = length (dueIn q);
+}
+
+abbrev pub periodIn : Table → ℕ → ℕ
+periodIn t i = getD (t .servers) i zeroServer .period .0
+
+-- a turn of the replenishments that has an event due
+pub record Refilling (t : Table) (r : RefillsTurn) : Type 0 where
+  pub table : tableb longest mostWork t ≡ true
+  pub turning : Turning (periodIn t) (r .queue)
+  pub due : dueStep (r .queue) ≡ true
+  pub few : r .handled < 8
+
+unfoldable pub oneRefill : Table → RefillsTurn → RefillsTurn
+oneRefill t r = record {
+  full = alter (λ (b : Bool). true) (r .full) (firstCell (r .queue) .id);
+  queue = requeued (periodIn t) (r .queue);
+  handled = r .handled + 1;
+}

@@ -1,0 +1,42 @@
+-- The scheduler's state: for each server entry its tasks' loads, its arrival queue and its budget; and one replenishment queue for all servers.
+-- "Event ids are the places in the table."
+use mathlib.Core.List.{List, []}
+use Prim.Native.Nat.{ℕ}
+use lib.ListN.{getD, replicate}
+use Rattle.queue.specs.Row.{queueOf}
+use Rattle.table.specs.Limits.{entries}
+use Rattle.table.specs.Table.{served, zeroTask, zeroServer}
+use Rattle.table.specs.declared.Task.{Task}
+use Rattle.table.specs.declared.Server.{Server}
+use Rattle.scheduler.specs.declared.Load.{Load}
+use Rattle.scheduler.specs.declared.Entry.{Entry}
+use Rattle.scheduler.specs.declared.State.{State}
+
+-- the most pending work of a task, in served ticks
+abbrev pub mostPending : ℕ
+mostPending = 1000000
+
+-- where the lost count stops
+abbrev pub mostLost : ℕ
+mostLost = 65535
+
+-- a task's pending work and its lost count
+abbrev pub load : ℕ → ℕ → Load
+load pending lost = record { pending = served pending; lost = lost }
+
+abbrev pub zeroLoad : Load
+zeroLoad = load 0 0
+
+abbrev pub zeroEntry : Entry
+zeroEntry = record { loads = replicate entries zeroLoad; arrivals = queueOf []; budget = served 0 }
+
+-- the server and the entry at a place of the table, and a server's task at a place
+
+abbrev pub serverAt : State → ℕ → Server
+serverAt s i = getD (s .table .servers) i zeroServer
+
+abbrev pub entryAt : State → ℕ → Entry
+entryAt s i = getD (s .entries) i zeroEntry
+
+abbrev pub taskAt : Server → ℕ → Task
+taskAt s j = getD (s .tasks) j zeroTask

@@ -1,0 +1,147 @@
+-- One tick: document 01's four steps, in its order, over the queue's own definitions.
+use mathlib.Core.Bool.{Bool, true, false, not}
+use mathlib.Core.List.{List, [], _∷_}
+use Prim.Native.Nat.{ℕ, _+_, _-_}
+use lib.Dec.{eqb}
+use lib.ListN.{length}
+use Rattle.refusal.specs.Small.{pick, both, alter}
+use Rattle.refusal.specs.Numbers.{unsound, noRoomAgain}
+use Rattle.refusal.specs.Refusal.{none, Check, check, firstOf}
+use Rattle.refusal.specs.declared.Refusal.{Refusal}
+use Rattle.queue.specs.Limits.{maxGap, longest}
+use Rattle.queue.specs.Row.{Event, eventsOf}
+use Rattle.queue.specs.Calls.{acceptedWith, clockOf, takeOf, insertOf}
+use Rattle.queue.specs.declared.Queue.{Queue}
+use Rattle.queue.specs.declared.Changed.{Changed}
+use Rattle.table.specs.Table.{served, periodOf}
+use Rattle.table.specs.declared.Server.{Server}
+use Rattle.scheduler.specs.State.{load, serverAt, taskAt}
+use Rattle.scheduler.specs.Choice.{firstPending, chosenOf, choiceOf}
+use Rattle.scheduler.specs.Sound.{stateb}
+use Rattle.scheduler.specs.Arrive.{withArrival}
+use Rattle.scheduler.specs.declared.Load.{Load}
+use Rattle.scheduler.specs.declared.Entry.{Entry}
+use Rattle.scheduler.specs.declared.State.{State}
+use Rattle.scheduler.specs.declared.Choice.{Choice}
+use Rattle.scheduler.specs.declared.Choice.the-variants.{Idle}
+use Rattle.scheduler.specs.declared.Ticked.{Ticked}
+
+-- STEP 3: "The server's budget and the chosen task's work fall by 1."
+
+abbrev pub lessWork : Load → Load
+lessWork l = load (l .pending .0 - 1) (l .lost)
+
+unfoldable pub charge : Entry → Entry
+charge e = record {
+  loads = alter lessWork (e .loads) (firstPending (e .loads));
+  arrivals = e .arrivals;
+  budget = served (e .budget .0 - 1);
+}
+
+-- STEP 4: "All queues are clocked."
+
+abbrev pub clocked : Queue → Queue
+clocked q = clockOf maxGap longest q .queue
+
+-- the ids of the events that are due, in queue order
+abbrev pub dueIds : List Event → List ℕ
+dueIds [] = []
+dueIds (e ∷ es) = pick (eqb (e .at) 0) (e .id ∷ dueIds es) (dueIds es)
+
+-- "In one queue, events are handled in queue order": one after another each is taken and put in again, its delay away. The answer is refused where
+-- one has no room
+abbrev pub again : (ℕ → ℕ) → List ℕ → Changed → Changed
+again delay [] c = c
+again delay (id ∷ ids) c =
+    pick (eqb (c .refusal .number) 0)
+    (again delay ids (insertOf maxGap longest (takeOf maxGap longest (c .queue) .queue) id (delay id)))
+    c
+
+-- the queue after its clock, with its due events put in again
+abbrev pub dueIn : Queue → List ℕ
+dueIn q = dueIds (eventsOf (clocked q))
+
+unfoldable pub turnOf : (ℕ → ℕ) → Queue → Changed
+turnOf delay q = again delay (dueIn q) (acceptedWith (clocked q))
+
+abbrev pub roomb : Changed → Bool
+roomb c = eqb (c .refusal .number) 0
+
+-- "Due replenishments set the budget to C and are put in again P away."
+
+abbrev pub withBudget : ℕ → Entry → Entry
+withBudget n e = record { loads = e .loads; arrivals = e .arrivals; budget = served n }
+
+abbrev pub refilled : (ℕ → ℕ) → List ℕ → List Entry → List Entry
+refilled full [] es = es
+refilled full (id ∷ ids) es = refilled full ids (alter (withBudget (full id)) es id)
+
+abbrev pub periodAt : State → ℕ → ℕ
+periodAt s i = serverAt s i .period .0
+
+abbrev pub fullAt : State → ℕ → ℕ
+fullAt s i = serverAt s i .budget .0
+
+abbrev pub refillsTurn : State → Changed
+refillsTurn s = turnOf (periodAt s) (s .refills)
+
+-- "Then due task arrivals, by server rank, add E and go in again T away."
+
+abbrev pub arrivedLoads : Server → List ℕ → List Load → List Load
+arrivedLoads s [] ls = ls
+arrivedLoads s (id ∷ ids) ls = arrivedLoads s ids (withArrival (taskAt s id .work .0) id ls)
+
+abbrev pub arrivalsTurn : Server → Entry → Changed
+arrivalsTurn s e = turnOf (λ (id : ℕ). periodOf (taskAt s id .release)) (e .arrivals)
+
+unfoldable pub served4 : Server → Entry → Entry
+served4 s e = record { loads = arrivedLoads s (dueIn (e .arrivals)) (e .loads); arrivals = arrivalsTurn s e .queue; budget = e .budget }
+
+-- each server with its entry
+
+abbrev pub eachEntry : (Server → Entry → Entry) → List Server → List Entry → List Entry
+eachEntry f [] es = es
+eachEntry f (s ∷ ss) [] = []
+eachEntry f (s ∷ ss) (e ∷ es) = f s e ∷ eachEntry f ss es
+
+abbrev pub allRoomb : List Server → List Entry → Bool
+allRoomb [] es = true
+allRoomb (s ∷ ss) [] = true
+allRoomb (s ∷ ss) (e ∷ es) = both (roomb (arrivalsTurn s e)) (allRoomb ss es)
+
+-- the events due in step 4, over the servers' queues
+abbrev pub dueEvents : List Entry → ℕ
+dueEvents [] = 0
+dueEvents (e ∷ es) = length (dueIn (e .arrivals)) + dueEvents es
+
+-- THE TICK
+
+-- the entries after step 3
+abbrev pub chargedEntries : State → List Entry
+chargedEntries s = alter charge (s .entries) (chosenOf s)
+
+unfoldable pub stateAfter : State → State
+stateAfter s = record {
+  entries = eachEntry served4 (s .table .servers) (refilled (fullAt s) (dueIn (s .refills)) (chargedEntries s));
+  table = s .table;
+  refills = refillsTurn s .queue;
+}
+
+-- "how many events it handled: replenishments and arrivals, lost ones included. That count equals the events due in step 4."
+unfoldable pub handledOf : State → ℕ
+handledOf s = length (dueIn (s .refills)) + dueEvents (s .entries)
+
+-- every event that is due can be put in again
+unfoldable pub againb : State → Bool
+againb s = both (roomb (refillsTurn s)) (allRoomb (s .table .servers) (s .entries))
+
+abbrev pub tickChecks : State → List Check
+tickChecks s = check unsound (not (stateb s)) ∷ check noRoomAgain (not (againb s)) ∷ []
+
+abbrev pub tickedWith : Refusal → Choice → ℕ → State → Ticked
+tickedWith r c n s = record { state = s; refusal = r; choice = c; handled = n }
+
+unfoldable pub tickOf : State → Ticked
+tickOf s =
+    let r = firstOf (tickChecks s) in
+    pick (eqb (r .number) 0) (tickedWith none (choiceOf s) (handledOf s) (stateAfter s)) (tickedWith r Idle 0 s)

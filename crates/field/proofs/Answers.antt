@@ -1,33 +1,30 @@
 -- Laws of a writer's answer and of the buffer that it leaves, for any refusal r and any bytes. Assumes nothing.
-use mathlib.Core.Path.{_≡_, refl, sym}
+use mathlib.Core.Path.{_≡_, refl}
 use mathlib.Core.Bool.{Bool, true, false}
 use mathlib.Core.List.{List, _++_}
 use mathlib.Core.Logic.{_≢_}
 use Prim.Native.Nat.{ℕ, _≤_}
 use lib.Dec.{eqb}
 use lib.ListN.{length, drop}
-use borrow.Author.Tests.{eqb-true, ne-eqb}
+use borrow.Author.Tests.{ne-eqb}
 use Rattle.refusal.specs.Small.{pick}
 use Rattle.refusal.specs.Refusal.{none}
 use Rattle.refusal.specs.declared.Refusal.{Refusal}
+use Rattle.refusal.proofs.Decided.{Decided, decided}
 use Rattle.field.specs.Field.{over}
 use Rattle.field.specs.Write.{writtenWith, written, bufferAfter}
+use Rattle.field.specs.declared.Written.{Written}
 use Rattle.field.proofs.Fields.{over-start, over-length}
 
 module _ (r : Refusal) (bytes : List ℕ) where
+  written-decided : Decided (λ (w : Written). w .refusal) r (writtenWith none (length bytes)) (writtenWith r 0) (written r bytes)
+  written-decided = decided (λ (w : Written). w .refusal) r _ _ (written r bytes) refl refl refl
+
   pub written-number : written r bytes .refusal .number ≡ r .number
-  written-number = go (eqb (r .number) 0) refl
-    where
-      go : (b : Bool) → eqb (r .number) 0 ≡ b → pick b (writtenWith none (length bytes)) (writtenWith r 0) .refusal .number ≡ r .number
-      go true e = sym (eqb-true (r .number) 0 e)
-      go false e = refl
+  written-number = written-decided .number
 
   pub written-place : r .place ≡ 0 → written r bytes .refusal .place ≡ 0
-  written-place p = go (eqb (r .number) 0)
-    where
-      go : (b : Bool) → pick b (writtenWith none (length bytes)) (writtenWith r 0) .refusal .place ≡ 0
-      go true = refl
-      go false = p
+  written-place = written-decided .place
 
   -- refused: no length, and the buffer as it was
   pub written-none : r .number ≢ 0 → written r bytes .length ≡ 0

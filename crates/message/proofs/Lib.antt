@@ -1,5 +1,4 @@
 pub mod Cases
-pub mod Answers
 pub mod OneOutcome
 pub mod Refusals
 pub mod Unchanged

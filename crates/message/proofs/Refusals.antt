@@ -9,12 +9,14 @@ use lib.ListN.{length, drop}
 use borrow.Author.Tests.{eq-eqb, ne-eqb, eqb-true, eqb-false, lt-ltb, le-ltb, ltb-true, ltb-false, not-true, not-false}
 use Rattle.refusal.specs.Small.{pick}
 use Rattle.refusal.specs.Numbers.{messageCut, messageLength, messageVersion, messageKind, bufferShort}
-use Rattle.refusal.specs.Refusal.{Check, firstOf}
+use Rattle.refusal.specs.Refusal.{none, Check, firstOf}
+use Rattle.refusal.proofs.Decided.{Decided, decided}
 use Rattle.refusal.proofs.Exactly.{number-when, none-when, no-place}
 use Rattle.field.specs.Field.{byteOf, fieldOf}
-use Rattle.message.specs.Message.{messageOf, readChecks, readOf, rawBytes, writeChecks, writeRefusal}
+use Rattle.field.proofs.Answers.{written-number, written-place}
+use Rattle.message.specs.Message.{zeroMessage, readWith, messageOf, readChecks, readOf, rawBytes, writeChecks, writeRefusal}
 use Rattle.message.specs.Meaning.{writeOf}
-use Rattle.message.proofs.Answers.{reading-number, reading-place, written-number, written-place}
+use Rattle.message.specs.declared.Reading.{Reading}
 use Rattle.message.proofs.Cases.{other-kind, known-kind}
 
 -- a number that stands twice: the first of its checks holds, or it does not and those after it give the number
@@ -34,9 +36,13 @@ first-or-after c cs = (forth (c .holds) refl, back)
 -- READ
 
 module _ (bs : List ℕ) where
-  read-number : readOf bs .refusal .number ≡ firstOf (readChecks bs) .number
+  -- what the answer says of its refusal
+  pub read-decided : let r = firstOf (readChecks bs) in Decided (λ (x : Reading). x .refusal) r (readWith none (messageOf bs)) (readWith r zeroMessage) (readOf bs)
   unfolding readOf
-  read-number = reading-number (firstOf (readChecks bs)) (messageOf bs)
+  read-decided = decided (λ (x : Reading). x .refusal) (firstOf (readChecks bs)) _ _ (readOf bs) refl refl refl
+
+  read-number : readOf bs .refusal .number ≡ firstOf (readChecks bs) .number
+  read-number = read-decided .number
 
   -- "message not whole": "under 2 bytes 14, then 15, under 6 bytes 14"
   pub read-14 : readOf bs .refusal .number ≡ messageCut ↔ ((length bs < 2) ⊎ ((2 ≤ length bs) × (length bs < 6) × (fieldOf 2 bs ≡ 6)))
@@ -95,8 +101,7 @@ module _ (bs : List ℕ) where
 
   -- "the place (0 where none is named below)"
   pub read-place : readOf bs .refusal .place ≡ 0
-  unfolding readOf
-  read-place = reading-place (firstOf (readChecks bs)) (messageOf bs) (no-place (readChecks bs) refl)
+  read-place = read-decided .place (no-place (readChecks bs) refl)
 
 -- WRITE, into a buffer
 

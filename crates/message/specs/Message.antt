@@ -1,5 +1,5 @@
 -- "Message, six bytes: length 6 (2 bytes), version 1, kind, two bytes. Kind 1: a number of ticks to run, 0 to 65,535. Kind 2: server, task."
-use mathlib.Core.Bool.{Bool, true, false, not}
+use mathlib.Core.Bool.{Bool, false, not}
 use mathlib.Core.List.{List, [], _∷_, _++_}
 use Prim.Native.Nat.{ℕ}
 use lib.Dec.{ltb, eqb}

@@ -145,21 +145,24 @@ without-length id (e ∷ es) = go (eqb (e .id) id) (without-length id es)
     go true r = omega arith
     go false r = omega arith
 
-pub without-proper : (id : ℕ) (es : List Event) → proper es → proper (withoutEvent id es)
-without-proper id [] p = tt
-without-proper id (e ∷ es) p = go (eqb (e .id) id) (without-proper id es (p .1))
+-- what holds of the rest of a list too, and of an event before what is left where it held of the list, holds of what is left
+without-keeps : (P : List Event → Type 0) (id : ℕ) → ((e : Event) (es : List Event) → P (e ∷ es) → P es)
+    → ((e : Event) (es : List Event) → P (e ∷ es) → P (withoutEvent id es) → P (e ∷ withoutEvent id es)) → (es : List Event) → P es → P (withoutEvent id es)
+without-keeps P id rest before [] p = p
+without-keeps P id rest before (e ∷ es) p = go (eqb (e .id) id) (without-keeps P id rest before es (rest e es p))
   where
-    go : (b : Bool) → proper (withoutEvent id es) → proper (pick b es (e ∷ withoutEvent id es))
-    go true r = p .1
-    go false r = (p .0, r)
+    go : (b : Bool) → P (withoutEvent id es) → P (pick b es (e ∷ withoutEvent id es))
+    go true r = rest e es p
+    go false r = before e es p r
+
+pub without-proper : (id : ℕ) (es : List Event) → proper es → proper (withoutEvent id es)
+without-proper id = without-keeps proper id (λ e es p. p .1) (λ e es p r. (p .0, r))
 
 pub without-near : (D id : ℕ) (es : List Event) → nearb D es ≡ true → nearb D (withoutEvent id es) ≡ true
-without-near D id [] h = refl
-without-near D id (e ∷ es) h = go (eqb (e .id) id) (without-near D id es (both-right (leb (e .at) D) _ h))
-  where
-    go : (b : Bool) → nearb D (withoutEvent id es) ≡ true → nearb D (pick b es (e ∷ withoutEvent id es)) ≡ true
-    go true r = both-right (leb (e .at) D) _ h
-    go false r = rw (both-left (leb (e .at) D) _ h) r
+without-near D id =
+    without-keeps (λ es. nearb D es ≡ true) id
+    (λ e es h. both-right (leb (e .at) D) _ h)
+    (λ e es h r. rw (both-left (leb (e .at) D) _ h) r)
 
 -- the others are there as before
 pub without-has : (id j : ℕ) (es : List Event) → eqb id j ≡ false → hasb j (withoutEvent id es) ≡ hasb j es
@@ -171,20 +174,16 @@ without-has id j (e ∷ es) n = go (eqb (e .id) id) refl (without-has id j es n)
     go false q r = ap (pick (eqb (e .id) j) true) r
 
 pub without-absent : (id j : ℕ) (es : List Event) → hasb j es ≡ false → hasb j (withoutEvent id es) ≡ false
-without-absent id j [] h = refl
-without-absent id j (e ∷ es) h = go (eqb (e .id) id) (without-absent id j es (neither-right (eqb (e .id) j) _ h))
-  where
-    go : (b : Bool) → hasb j (withoutEvent id es) ≡ false → hasb j (pick b es (e ∷ withoutEvent id es)) ≡ false
-    go true r = neither-right (eqb (e .id) j) _ h
-    go false r = rw (neither-left (eqb (e .id) j) _ h) r
+without-absent id j =
+    without-keeps (λ es. hasb j es ≡ false) id
+    (λ e es h. neither-right (eqb (e .id) j) _ h)
+    (λ e es h r. rw (neither-left (eqb (e .id) j) _ h) r)
 
 pub without-distinct : (id : ℕ) (es : List Event) → distinctb es ≡ true → distinctb (withoutEvent id es) ≡ true
-without-distinct id [] d = refl
-without-distinct id (e ∷ es) d = go (eqb (e .id) id) (without-distinct id es (both-right (not (hasb (e .id) es)) _ d))
-  where
-    go : (b : Bool) → distinctb (withoutEvent id es) ≡ true → distinctb (pick b es (e ∷ withoutEvent id es)) ≡ true
-    go true r = both-right (not (hasb (e .id) es)) _ d
-    go false r = rw (without-absent id (e .id) es (not-true _ (both-left (not (hasb (e .id) es)) _ d))) r
+without-distinct id =
+    without-keeps (λ es. distinctb es ≡ true) id
+    (λ e es d. both-right (not (hasb (e .id) es)) _ d)
+    (λ e es d r. rw (without-absent id (e .id) es (not-true _ (both-left (not (hasb (e .id) es)) _ d))) r)
 
 -- where ids differ, the event is gone
 pub without-gone : (id : ℕ) (es : List Event) → distinctb es ≡ true → hasb id (withoutEvent id es) ≡ false

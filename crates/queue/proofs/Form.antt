@@ -1,21 +1,21 @@
 -- The test of the normal form, cell by cell, is the definition: the cells are the normal form of their events. Over any M. Assumes nothing.
 use mathlib.Core.Path.{_≡_, refl, sym, ap, _∙_}
-use mathlib.Core.Bool.{Bool, true, false, not}
+use mathlib.Core.Bool.{Bool, true, false}
 use mathlib.Core.List.{List, [], _∷_, _++_}
-use Prim.Native.Nat.{ℕ, zero, suc, _+_, _-_, _*_, _/_, _≤_, _<_}
+use Prim.Native.Nat.{ℕ, zero, suc, _+_, _-_, _*_, _/_, _≤_}
 use native.Mathlib.Omega.{arith}
 use native.Mathlib.Nat.{zero-mul, suc-mul}
 use lib.Dec.{leb, eqb}
-use lib.ListN.{length, replicate}
-use borrow.Author.Tests.{eq-eqb, ne-eqb, le-leb, lt-leb, leb-true, leb-false, eqb-true, eqb-false}
+use lib.ListN.{replicate}
+use borrow.Author.Tests.{eq-eqb, le-leb, leb-true, eqb-true, eqb-false}
 use Rattle.refusal.specs.Small.{pick, both}
 use Rattle.refusal.proofs.Small.{both-left, both-right}
 use Rattle.queue.specs.Limits.{filler}
-use Rattle.queue.specs.Row.{Event, event, cell, eventAt, eventsFrom, chain, fillersFor, cellsFor, normal}
+use Rattle.queue.specs.Row.{Event, event, cell, eventsFrom, chain, cellsFor, normal}
 use Rattle.queue.specs.Sound.{sameCells}
-use Rattle.queue.specs.Moves.{normb, spacedb}
+use Rattle.queue.specs.Moves.{normb}
 use Rattle.queue.specs.declared.Cell.{Cell}
-use Rattle.queue.proofs.Normal.{sorted, proper, chain-of, one-cell, split, sorted-events, proper-events}
+use Rattle.queue.proofs.Normal.{proper, chain-of, one-cell, split, proper-events}
 
 -- the test that two rows are the same shows that they are
 pub same-cells : (l bs : List Cell) → sameCells l bs ≡ true → l ≡ bs

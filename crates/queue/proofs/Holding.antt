@@ -9,7 +9,7 @@ use lib.ListN.{length, getD, set, replicate, length-set, getD-replicate}
 use lib.Seq.{getD-set-same, getD-set-other}
 use borrow.Author.Tests.{eqb-true, eqb-false}
 use Rattle.refusal.specs.Small.{pick, both}
-use Rattle.refusal.proofs.Small.{both-true}
+use Rattle.refusal.proofs.Small.{both-true, either-false}
 use Rattle.queue.specs.Limits.{filler}
 use Rattle.queue.specs.Row.{Event, event, eventAt, eventsFrom}
 use Rattle.queue.specs.Sound.{hasb}
@@ -43,10 +43,6 @@ flagged-more : (es : List Event) (seen : List Bool) (id at : ℕ) → id < lengt
     → ((k : ℕ) → k < filler → getD seen k false ≡ hasb k es) → (k : ℕ) → k < filler → getD (set seen id true) k false ≡ hasb k (es ++ eventAt id at)
 flagged-more es seen id at small m k h = go (eqb id k) (eqb id filler) refl refl
   where
-    either-false : (b : Bool) → pick b true false ≡ b
-    either-false true = refl
-    either-false false = refl
-
     go : (u b : Bool) → eqb id k ≡ u → eqb id filler ≡ b → getD (set seen id true) k false ≡ hasb k (es ++ pick b [] (event id at ∷ []))
     go true true q r =
         let a : id ≡ k = eqb-true id k q in

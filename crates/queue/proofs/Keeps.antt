@@ -9,51 +9,38 @@ use native.Mathlib.Omega.{arith}
 use lib.Dec.{leb, eqb}
 use lib.ListN.{length, length-append}
 use borrow.Author.Tests.{ne-eqb, le-leb, eqb-true, eqb-false}
-use Rattle.refusal.specs.Small.{pick}
-use Rattle.refusal.specs.Refusal.{none, firstOf}
+use Rattle.refusal.specs.Refusal.{firstOf}
 use Rattle.refusal.specs.declared.Refusal.{Refusal}
 use Rattle.refusal.proofs.Small.{both-right}
 use Rattle.queue.specs.Limits.{cellCount, filler}
 use Rattle.queue.specs.Row.{Event, event, cellsOf, queueOf, eventsOf, normal}
 use Rattle.queue.specs.Sound.{sameb, hasb, distinctb, nearb, soundb}
-use Rattle.queue.specs.Calls.{changed, acceptedWith, taken, takenWith, leftAfter, leftWith, formed}
+use Rattle.queue.specs.Calls.{changed, acceptedWith, taken, leftAfter, formed}
 use Rattle.queue.specs.Calls.{withEvent, withoutEvent, earlier, dueId, withoutDue, later}
 use Rattle.queue.specs.Calls.{insertChecks, findChecks, clockChecks, takeChecks, pushChecks}
 use Rattle.queue.specs.Calls.{insertOf, removeOf, clockOf, takeOf, pushBackOf}
 use Rattle.queue.specs.declared.Queue.{Queue}
 use Rattle.queue.specs.declared.Changed.{Changed}
+use Rattle.queue.specs.declared.Taken.{Taken}
+use Rattle.queue.specs.declared.Left.{Left}
 use Rattle.queue.proofs.Cells.{made-len}
 use Rattle.queue.proofs.Normal.{sorted, proper, sorted-from, sorted-events, proper-events}
 use Rattle.queue.proofs.Soundness.{Sound, sound-is, sound-made, events-made}
 use Rattle.queue.proofs.Events.{with-sorted, with-proper, with-near, with-distinct, without-sorted, without-proper, without-near, without-distinct, without-fewer}
 use Rattle.queue.proofs.Events.{earlier-sorted, earlier-proper, earlier-near, earlier-distinct, earlier-fewer, later-sorted, later-proper, later-near, later-distinct, due-first}
-use Rattle.queue.proofs.Refusals.{insert-accepted, remove-accepted, clock-accepted, take-accepted, push-back-accepted}
+use Rattle.queue.proofs.Refusals.{changed-decided, taken-decided, left-decided, insert-accepted, remove-accepted, clock-accepted, take-accepted, push-back-accepted}
 use Rattle.queue.proofs.Unchanged.{insert-unchanged, remove-unchanged, clock-unchanged, take-unchanged, push-back-unchanged}
 
 -- What an answer holds where it is not refused
 
 pub changed-next : (r : Refusal) (q next : Queue) → changed r q next .refusal .number ≡ 0 → changed r q next .queue ≡ next
-changed-next r q next = go (eqb (r .number) 0) refl
-  where
-    go : (b : Bool) → eqb (r .number) 0 ≡ b
-        → let c = pick {A = Changed} b (acceptedWith next) (record { refusal = r; queue = q }) in c .refusal .number ≡ 0 → c .queue ≡ next
-    go true e h = refl
-    go false e h = absurd (eqb-false (r .number) 0 e h)
+changed-next r q next h = ap (λ (c : Changed). c .queue) (changed-decided r q next .passed h .1)
 
 pub taken-next : (r : Refusal) (q : Queue) (id : ℕ) (next : Queue) → let t = taken r q id next in t .refusal .number ≡ 0 → (t .id ≡ id) × (t .queue ≡ next)
-taken-next r q id next = go (eqb (r .number) 0) refl
-  where
-    go : (b : Bool) → eqb (r .number) 0 ≡ b
-        → let t = pick b (takenWith none id next) (takenWith r 0 q) in t .refusal .number ≡ 0 → (t .id ≡ id) × (t .queue ≡ next)
-    go true e h = (refl, refl)
-    go false e h = absurd (eqb-false (r .number) 0 e h)
+taken-next r q id next h = let e = taken-decided r q id next .passed h .1 in (ap (λ (t : Taken). t .id) e, ap (λ (t : Taken). t .queue) e)
 
 pub left-next : (r : Refusal) (d : ℕ) → leftAfter r d .refusal .number ≡ 0 → leftAfter r d .distance .0 ≡ d
-left-next r d = go (eqb (r .number) 0) refl
-  where
-    go : (b : Bool) → eqb (r .number) 0 ≡ b → let l = pick b (leftWith none d) (leftWith r 0) in l .refusal .number ≡ 0 → l .distance .0 ≡ d
-    go true e h = refl
-    go false e h = absurd (eqb-false (r .number) 0 e h)
+left-next r d h = ap (λ (l : Left). l .distance .0) (left-decided r d .passed h .1)
 
 either : {A : Type 0} (n : ℕ) → (n ≡ 0 → A) → (n ≢ 0 → A) → A
 either {A} n zero other = go (eqb n 0) refl

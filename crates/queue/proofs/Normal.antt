@@ -1,17 +1,16 @@
 -- Laws of events and of their normal form, over any largest gap M. Assumes nothing.
-use mathlib.Core.Path.{_≡_, refl, sym, ap, _∙_}
+use mathlib.Core.Path.{_≡_, refl, ap, _∙_}
 use mathlib.Core.Bool.{Bool, true, false}
-use mathlib.Core.List.{List, [], _∷_, _++_, append-assoc, append-nil}
+use mathlib.Core.List.{List, [], _∷_, _++_}
 use Prim.Native.Nat.{ℕ, zero, suc, _+_, _-_, _*_, _/_, _≤_, _<_}
 use native.Mathlib.Omega.{arith}
 use native.Mathlib.Nat.{div-eq-of-lt, div-mul-le-self, lt-div-mul-add, zero-mul, suc-mul, add-mul, div-lt-iff-lt-mul, le-div-iff-mul-le}
-use lib.Dec.{leb, eqb}
+use lib.Dec.{eqb}
 use lib.Arith.{digits-div}
 use lib.ListN.{length, length-append}
-use borrow.Author.Tests.{eq-eqb, ne-eqb, le-leb, lt-leb, leb-true, leb-false, eqb-true, eqb-false}
-use Rattle.refusal.specs.Small.{pick, both}
+use Rattle.refusal.specs.Small.{pick}
 use Rattle.queue.specs.Limits.{filler}
-use Rattle.queue.specs.Row.{Event, event, cell, eventAt, eventsFrom, chain, fillersFor, cellsFor, normal}
+use Rattle.queue.specs.Row.{Event, event, cell, eventsFrom, chain, cellsFor, normal}
 use Rattle.queue.specs.declared.Cell.{Cell}
 
 -- distances that do not fall, counted from t

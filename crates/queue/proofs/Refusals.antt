@@ -1,17 +1,17 @@
 -- "Given exactly when": each refusal number of each call of the queue, and number 0 where a call is not refused. M is the largest gap and D the longest
 -- distance. Assumes nothing.
-use mathlib.Core.Path.{_≡_, refl, sym, ap}
-use mathlib.Core.Bool.{Bool, true, false, not}
+use mathlib.Core.Path.{_≡_, refl, ap}
+use mathlib.Core.Bool.{true, false, not}
 use mathlib.Core.List.{List, [], _∷_}
 use mathlib.Core.Logic.{_↔_, _≢_}
 use Prim.Native.Nat.{ℕ, _≤_, _<_}
-use lib.Dec.{eqb, ltb}
+use lib.Dec.{ltb}
 use lib.ListN.{length}
 use borrow.Author.Tests.{eq-eqb, ne-eqb, eqb-true, eqb-false, lt-ltb, le-ltb, ltb-true, ltb-false, not-true, not-false}
-use Rattle.refusal.specs.Small.{pick}
 use Rattle.refusal.specs.Numbers.{idOfFiller, idThere, delayTooLong, noRoom, noSuchEvent, eventDue, nothingDue, atLongest, unsound}
 use Rattle.refusal.specs.Refusal.{none, Check, check, firstOf}
 use Rattle.refusal.specs.declared.Refusal.{Refusal}
+use Rattle.refusal.proofs.Decided.{Decided, decided}
 use Rattle.refusal.proofs.Exactly.{number-when, none-when, no-place}
 use Rattle.queue.specs.Limits.{cellCount, filler}
 use Rattle.queue.specs.Row.{Event, event, cellsOf, eventsOf, normal}
@@ -22,6 +22,8 @@ use Rattle.queue.specs.Calls.{insertOf, removeOf, timeLeftOf, clockOf, t
 use Rattle.queue.specs.Steps.{placeCells, placeStep}
 use Rattle.queue.specs.declared.Queue.{Queue}
 use Rattle.queue.specs.declared.Changed.{Changed}
+use Rattle.queue.specs.declared.Taken.{Taken}
+use Rattle.queue.specs.declared.Left.{Left}
 use Rattle.queue.proofs.Normal.{proper-events}
 use Rattle.queue.proofs.Events.{no-filler}
 
@@ -33,56 +35,23 @@ cellsNeeded M es = length (normal M 0 es)
 pub filler-absent : (q : Queue) → hasb filler (eventsOf q) ≡ false
 filler-absent q = no-filler (eventsOf q) (proper-events 0 (cellsOf q))
 
--- What an answer says of its refusal: the number and the place are those of the first test that holds
+-- What each kind of answer says of its refusal
 
-changed-number : (r : Refusal) (q next : Queue) → changed r q next .refusal .number ≡ r .number
-changed-number r q next = go (eqb (r .number) 0) refl
-  where
-    go : (b : Bool) → eqb (r .number) 0 ≡ b → pick {A = Changed} b (acceptedWith next) (record { refusal = r; queue = q }) .refusal .number ≡ r .number
-    go true e = sym (eqb-true (r .number) 0 e)
-    go false e = refl
+pub changed-decided : (r : Refusal) (q next : Queue) → Decided (λ (c : Changed). c .refusal) r (acceptedWith next) (record { refusal = r; queue = q }) (changed r q next)
+changed-decided r q next = decided (λ (c : Changed). c .refusal) r _ _ (changed r q next) refl refl refl
 
-changed-place : (r : Refusal) (q next : Queue) → r .place ≡ 0 → changed r q next .refusal .place ≡ 0
-changed-place r q next p = go (eqb (r .number) 0)
-  where
-    go : (b : Bool) → pick {A = Changed} b (acceptedWith next) (record { refusal = r; queue = q }) .refusal .place ≡ 0
-    go true = refl
-    go false = p
+pub taken-decided : (r : Refusal) (q : Queue) (id : ℕ) (next : Queue) → Decided (λ (t : Taken). t .refusal) r (takenWith none id next) (takenWith r 0 q) (taken r q id next)
+taken-decided r q id next = decided (λ (t : Taken). t .refusal) r _ _ (taken r q id next) refl refl refl
 
-taken-number : (r : Refusal) (q : Queue) (id : ℕ) (next : Queue) → taken r q id next .refusal .number ≡ r .number
-taken-number r q id next = go (eqb (r .number) 0) refl
-  where
-    go : (b : Bool) → eqb (r .number) 0 ≡ b → pick b (takenWith none id next) (takenWith r 0 q) .refusal .number ≡ r .number
-    go true e = sym (eqb-true (r .number) 0 e)
-    go false e = refl
-
-taken-place : (r : Refusal) (q : Queue) (id : ℕ) (next : Queue) → r .place ≡ 0 → taken r q id next .refusal .place ≡ 0
-taken-place r q id next p = go (eqb (r .number) 0)
-  where
-    go : (b : Bool) → pick b (takenWith none id next) (takenWith r 0 q) .refusal .place ≡ 0
-    go true = refl
-    go false = p
-
-left-number : (r : Refusal) (d : ℕ) → leftAfter r d .refusal .number ≡ r .number
-left-number r d = go (eqb (r .number) 0) refl
-  where
-    go : (b : Bool) → eqb (r .number) 0 ≡ b → pick b (leftWith none d) (leftWith r 0) .refusal .number ≡ r .number
-    go true e = sym (eqb-true (r .number) 0 e)
-    go false e = refl
-
-left-place : (r : Refusal) (d : ℕ) → r .place ≡ 0 → leftAfter r d .refusal .place ≡ 0
-left-place r d p = go (eqb (r .number) 0)
-  where
-    go : (b : Bool) → pick b (leftWith none d) (leftWith r 0) .refusal .place ≡ 0
-    go true = refl
-    go false = p
+pub left-decided : (r : Refusal) (d : ℕ) → Decided (λ (l : Left). l .refusal) r (leftWith none d) (leftWith r 0) (leftAfter r d)
+left-decided r d = decided (λ (l : Left). l .refusal) r _ _ (leftAfter r d) refl refl refl
 
 -- INSERT
 
 module _ (M D : ℕ) (q : Queue) (id delay : ℕ) where
   insert-number : insertOf M D q id delay .refusal .number ≡ firstOf (insertChecks M D q id delay) .number
   unfolding insertOf
-  insert-number = changed-number (firstOf (insertChecks M D q id delay)) q _
+  insert-number = changed-decided (firstOf (insertChecks M D q id delay)) q _ .number
 
   -- "queue, state or table handed in isn't sound"
   pub insert-31 : insertOf M D q id delay .refusal .number ≡ unsound ↔ (soundb M D q ≡ false)
@@ -134,14 +103,14 @@ module _ (M D : ℕ) (q : Queue) (id delay : ℕ) where
   -- "the place (0 where none is named below)"
   pub insert-place : insertOf M D q id delay .refusal .place ≡ 0
   unfolding insertOf
-  insert-place = changed-place (firstOf (insertChecks M D q id delay)) q _ (no-place (insertChecks M D q id delay) refl)
+  insert-place = changed-decided (firstOf (insertChecks M D q id delay)) q _ .place (no-place (insertChecks M D q id delay) refl)
 
 -- REMOVE
 
 module _ (M D : ℕ) (q : Queue) (id : ℕ) where
   remove-number : removeOf M D q id .refusal .number ≡ firstOf (findChecks M D q id) .number
   unfolding removeOf
-  remove-number = changed-number (firstOf (findChecks M D q id)) q _
+  remove-number = changed-decided (firstOf (findChecks M D q id)) q _ .number
 
   -- "queue, state or table handed in isn't sound"
   pub remove-31 : removeOf M D q id .refusal .number ≡ unsound ↔ (soundb M D q ≡ false)
@@ -167,7 +136,7 @@ module _ (M D : ℕ) (q : Queue) (id : ℕ) where
   -- "the place (0 where none is named below)"
   pub remove-place : removeOf M D q id .refusal .place ≡ 0
   unfolding removeOf
-  remove-place = changed-place (firstOf (findChecks M D q id)) q _ (no-place (findChecks M D q id) refl)
+  remove-place = changed-decided (firstOf (findChecks M D q id)) q _ .place (no-place (findChecks M D q id) refl)
 
 -- "(255 included)": a filler's id is never there
 pub remove-255 : (M D : ℕ) (q : Queue) → soundb M D q ≡ true → removeOf M D q filler .refusal .number ≡ noSuchEvent
@@ -178,7 +147,7 @@ remove-255 M D q s = remove-26 M D q filler .1 (s, filler-absent q)
 module _ (M D : ℕ) (q : Queue) (id : ℕ) where
   time-left-number : timeLeftOf M D q id .refusal .number ≡ firstOf (findChecks M D q id) .number
   unfolding timeLeftOf
-  time-left-number = left-number (firstOf (findChecks M D q id)) _
+  time-left-number = left-decided (firstOf (findChecks M D q id)) _ .number
 
   -- "queue, state or table handed in isn't sound"
   pub time-left-31 : timeLeftOf M D q id .refusal .number ≡ unsound ↔ (soundb M D q ≡ false)
@@ -204,7 +173,7 @@ module _ (M D : ℕ) (q : Queue) (id : ℕ) where
   -- "the place (0 where none is named below)"
   pub time-left-place : timeLeftOf M D q id .refusal .place ≡ 0
   unfolding timeLeftOf
-  time-left-place = left-place (firstOf (findChecks M D q id)) _ (no-place (findChecks M D q id) refl)
+  time-left-place = left-decided (firstOf (findChecks M D q id)) _ .place (no-place (findChecks M D q id) refl)
 
 -- "(255 included)": a filler's id is never there
 pub time-left-255 : (M D : ℕ) (q : Queue) → soundb M D q ≡ true → timeLeftOf M D q filler .refusal .number ≡ noSuchEvent
@@ -215,7 +184,7 @@ time-left-255 M D q s = time-left-26 M D q filler .1 (s, filler-absent q)
 module _ (M D : ℕ) (q : Queue) where
   clock-number : clockOf M D q .refusal .number ≡ firstOf (clockChecks M D q) .number
   unfolding clockOf
-  clock-number = changed-number (firstOf (clockChecks M D q)) q _
+  clock-number = changed-decided (firstOf (clockChecks M D q)) q _ .number
 
   -- "queue, state or table handed in isn't sound"
   pub clock-31 : clockOf M D q .refusal .number ≡ unsound ↔ (soundb M D q ≡ false)
@@ -241,14 +210,14 @@ module _ (M D : ℕ) (q : Queue) where
   -- "the place (0 where none is named below)"
   pub clock-place : clockOf M D q .refusal .place ≡ 0
   unfolding clockOf
-  clock-place = changed-place (firstOf (clockChecks M D q)) q _ (no-place (clockChecks M D q) refl)
+  clock-place = changed-decided (firstOf (clockChecks M D q)) q _ .place (no-place (clockChecks M D q) refl)
 
 -- TAKE
 
 module _ (M D : ℕ) (q : Queue) where
   take-number : takeOf M D q .refusal .number ≡ firstOf (takeChecks M D q) .number
   unfolding takeOf
-  take-number = taken-number (firstOf (takeChecks M D q)) q _ _
+  take-number = taken-decided (firstOf (takeChecks M D q)) q _ _ .number
 
   -- "queue, state or table handed in isn't sound"
   pub take-31 : takeOf M D q .refusal .number ≡ unsound ↔ (soundb M D q ≡ false)
@@ -274,14 +243,14 @@ module _ (M D : ℕ) (q : Queue) where
   -- "the place (0 where none is named below)"
   pub take-place : takeOf M D q .refusal .place ≡ 0
   unfolding takeOf
-  take-place = taken-place (firstOf (takeChecks M D q)) q _ _ (no-place (takeChecks M D q) refl)
+  take-place = taken-decided (firstOf (takeChecks M D q)) q _ _ .place (no-place (takeChecks M D q) refl)
 
 -- PUSH BACK
 
 module _ (M D : ℕ) (q : Queue) where
   push-back-number : pushBackOf M D q .refusal .number ≡ firstOf (pushChecks M D q) .number
   unfolding pushBackOf
-  push-back-number = changed-number (firstOf (pushChecks M D q)) q _
+  push-back-number = changed-decided (firstOf (pushChecks M D q)) q _ .number
 
   -- "queue, state or table handed in isn't sound"
   pub push-back-31 : pushBackOf M D q .refusal .number ≡ unsound ↔ (soundb M D q ≡ false)
@@ -316,7 +285,7 @@ module _ (M D : ℕ) (q : Queue) where
   -- "the place (0 where none is named below)"
   pub push-back-place : pushBackOf M D q .refusal .place ≡ 0
   unfolding pushBackOf
-  push-back-place = changed-place (firstOf (pushChecks M D q)) q _ (no-place (pushChecks M D q) refl)
+  push-back-place = changed-decided (firstOf (pushChecks M D q)) q _ .place (no-place (pushChecks M D q) refl)
 
 -- PLACED, the total step that looks only at the length and the room
 
@@ -326,7 +295,7 @@ module _ (M : ℕ) (q : Queue) (id delay : ℕ) where
 
   place-number : placeStep M q id delay .refusal .number ≡ firstOf placeChecks .number
   unfolding placeStep
-  place-number = changed-number (firstOf placeChecks) q _
+  place-number = changed-decided (firstOf placeChecks) q _ .number
 
   pub place-31 : placeStep M q id delay .refusal .number ≡ unsound ↔ (cellCount < q .len)
   place-31 =
@@ -348,4 +317,4 @@ module _ (M : ℕ) (q : Queue) (id delay : ℕ) where
 
   pub place-place : placeStep M q id delay .refusal .place ≡ 0
   unfolding placeStep
-  place-place = changed-place (firstOf placeChecks) q _ (no-place placeChecks refl)
+  place-place = changed-decided (firstOf placeChecks) q _ .place (no-place placeChecks refl)

@@ -1,13 +1,13 @@
 -- On a sound queue the total steps are the calls, over any largest gap M (1 or more) and any longest distance D: a scheduler that has checked its state
 -- once goes by these laws. Assumes nothing.
-use mathlib.Core.Path.{_≡_, refl, sym, ap, _∙_}
+use mathlib.Core.Path.{_≡_, refl, sym, _∙_}
 use mathlib.Core.Bool.{Bool, true, false}
 use mathlib.Core.List.{List, [], _∷_}
 use Prim.Native.Nat.{ℕ, _-_, _≤_, _<_}
 use native.Mathlib.Omega.{arith}
 use lib.Dec.{leb, ltb, eqb}
 use lib.ListN.{getD}
-use borrow.Author.Tests.{lt-ltb, le-ltb, ne-eqb, eqb-true, leb-false}
+use borrow.Author.Tests.{le-ltb, ne-eqb, eqb-true, leb-false}
 use Rattle.refusal.specs.Small.{pick, both}
 use Rattle.refusal.specs.Numbers.{eventDue, nothingDue}
 use Rattle.refusal.specs.Refusal.{none, refused}
@@ -19,11 +19,8 @@ use Rattle.queue.specs.Calls.{acceptedWith, refusedWith, takenWith, dueb
 use Rattle.queue.specs.Steps.{firstCell, dueStep, lessHead, nearerStep, restStep, tickStep, paceStep, placeStep}
 use Rattle.queue.specs.declared.Cell.{Cell}
 use Rattle.queue.specs.declared.Queue.{Queue}
-use Rattle.queue.specs.declared.Changed.{Changed}
-use Rattle.queue.specs.declared.Taken.{Taken}
-use Rattle.queue.specs.declared.Pace.{Pace}
 use Rattle.queue.specs.declared.Pace.the-variants.{Still, Falls, Ends}
-use Rattle.queue.proofs.Soundness.{Sound, sound-is}
+use Rattle.queue.proofs.Soundness.{sound-is}
 use Rattle.queue.proofs.Placing.{place-step}
 use Rattle.queue.proofs.Ticking.{sound-due, sound-tick, sound-rest, sound-first}
 

@@ -10,7 +10,7 @@ use lib.ListN.{length, getD, take, drop, set, replicate, length-set, length-drop
 use lib.Seq.{getD-set-same, getD-set-other, getD-take, take-suc}
 use borrow.Author.Tests.{eq-eqb, ne-eqb, le-leb, lt-leb, leb-true, leb-false, eqb-true, eqb-false, not-true}
 use Rattle.refusal.specs.Small.{pick, both, padded}
-use Rattle.refusal.proofs.Small.{both-left, both-right, both-false, both-swap, contrary}
+use Rattle.refusal.proofs.Small.{both-left, both-right, both-false, both-swap, either-true, either-false, contrary}
 use Rattle.queue.specs.Limits.{cellCount, filler}
 use Rattle.queue.specs.Row.{Event, event, cell, cellsOf, queueOf, eventAt, eventsOf, eventsFrom, normal}
 use Rattle.queue.specs.Sound.{sameCells, sameb, hasb, distinctb, nearb, soundb}
@@ -136,14 +136,6 @@ pub marked-more : (es : List Event) (seen : List Bool) (id at : ℕ) → proper 
     → (k : ℕ) → k < idCount → getD (set seen id (not (eqb id filler))) k false ≡ hasb k (es ++ eventAt id at)
 marked-more es seen id at p full small m k h = rw (has-append k es (eventAt id at)) (go (eqb k id) (eqb id filler) refl refl)
   where
-    either-true : (b : Bool) → pick b true true ≡ true
-    either-true true = refl
-    either-true false = refl
-
-    either-false : (b : Bool) → pick b true false ≡ b
-    either-false true = refl
-    either-false false = refl
-
     go : (u b : Bool) → eqb k id ≡ u → eqb id filler ≡ b → getD (set seen id (not b)) k false ≡ pick (hasb k es) true (hasb k (pick b [] (event id at ∷ [])))
     go true true q r =
         let a : k ≡ id = eqb-true k id q in

@@ -1,18 +1,17 @@
 -- What a sound queue is, and when a queue made of events is one. Over any largest gap M and any longest distance D. Assumes nothing.
 use mathlib.Core.Path.{_≡_, refl, sym, ap, _∙_}
-use mathlib.Core.Bool.{Bool, true, false, not}
-use mathlib.Core.List.{List, [], _∷_, _++_}
-use Prim.Native.Nat.{ℕ, zero, suc, _+_, _-_, _≤_, _<_}
+use mathlib.Core.Bool.{true}
+use mathlib.Core.List.{List}
+use Prim.Native.Nat.{ℕ, _≤_}
 use native.Mathlib.Omega.{arith}
 use lib.Dec.{leb, eqb}
-use lib.ListN.{length, length-append, length-replicate, replicate}
+use lib.ListN.{length, length-append, length-replicate}
 use borrow.Author.Tests.{eq-eqb, le-leb, leb-true, eqb-true}
-use Rattle.refusal.specs.Small.{pick, both, padded}
+use Rattle.refusal.specs.Small.{padded}
 use Rattle.refusal.proofs.Small.{both-left, both-right}
 use Rattle.queue.specs.Limits.{cellCount}
-use Rattle.queue.specs.Row.{Event, event, cell, cellsOf, queueOf, eventsOf, eventsFrom, normal}
-use Rattle.queue.specs.Sound.{sameb, sameCells, hasb, distinctb, nearb, soundb}
-use Rattle.queue.specs.declared.Cell.{Cell}
+use Rattle.queue.specs.Row.{Event, cell, cellsOf, queueOf, eventsOf, eventsFrom, normal}
+use Rattle.queue.specs.Sound.{sameb, distinctb, nearb, soundb}
 use Rattle.queue.specs.declared.Queue.{Queue}
 use Rattle.queue.proofs.Cells.{cellsOf-queueOf, made-cells, made-len, made-row, made-again}
 use Rattle.queue.proofs.Normal.{sorted, proper, round-trip}

@@ -1,6 +1,6 @@
 -- Whether a sound queue holds exactly the events that it is to hold: for each id below the number of reaches, an event 1 to its reach away, and none
 -- where the reach is 0. "Each once" is the soundness' part: ids differ.
-use mathlib.Core.Bool.{Bool, true, false}
+use mathlib.Core.Bool.{Bool, true}
 use mathlib.Core.List.{List, [], _∷_}
 use Prim.Native.Nat.{ℕ, suc}
 use lib.Dec.{leb, ltb}

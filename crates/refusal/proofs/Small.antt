@@ -1,6 +1,6 @@
 -- Laws of the small definitions. Assumes nothing.
-use mathlib.Core.Path.{_≡_, refl, _∙_, ap, sym}
-use mathlib.Core.Bool.{Bool, true, false, not}
+use mathlib.Core.Path.{_≡_, refl, sym}
+use mathlib.Core.Bool.{Bool, true, false}
 use mathlib.Core.List.{List, [], _∷_, _++_, append-assoc}
 use Prim.Native.Nat.{ℕ, suc, _-_, _<_}
 use native.Mathlib.Omega.{arith}
@@ -27,6 +27,15 @@ both-false false = refl
 pub both-swap : (a b : Bool) → both a b ≡ both b a
 both-swap true b = sym (both-true b)
 both-swap false b = sym (both-false b)
+
+-- one of two tests holds
+pub either-true : (b : Bool) → pick b true true ≡ true
+either-true true = refl
+either-true false = refl
+
+pub either-false : (b : Bool) → pick b true false ≡ b
+either-false true = refl
+either-false false = refl
 
 -- neither of two tests holds
 pub neither-left : (a b : Bool) → pick a true b ≡ false → a ≡ false

@@ -6,14 +6,15 @@ use mathlib.Core.List.{List, [], _∷_, _++_, append-nil}
 use mathlib.Core.Logic.{_↔_}
 use Prim.Native.Nat.{ℕ, zero, suc, _+_, _^_, _≤_, _<_}
 use native.Mathlib.Omega.{arith}
-use lib.Dec.{ltb, eqb}
+use lib.Dec.{ltb}
 use lib.ListN.{length, take, drop, getD, length-drop, take-append-drop}
 use lib.Seq.{take-at, take-all, drop-cons, length-take-le}
-use borrow.Author.Tests.{eqb-true, le-ltb, ltb-true, ltb-false}
-use Rattle.refusal.specs.Small.{pick, padded}
+use borrow.Author.Tests.{le-ltb, ltb-true, ltb-false}
+use Rattle.refusal.specs.Small.{padded}
 use Rattle.refusal.specs.Numbers.{bytesLeft}
 use Rattle.refusal.specs.Refusal.{none, Check, checkAt, firstOf}
 use Rattle.refusal.proofs.Rows.{All, all-take, all-at, padded-take, padded-length, padded-used, padded-unused}
+use Rattle.refusal.proofs.Decided.{Decided, decided}
 use Rattle.refusal.proofs.Exactly.{Passed, passes}
 use Rattle.refusal.proofs.Joined.{passed-join, passed-parts, passed-none, Ranged, ranged-join, ranged-wider, ranged-numbered}
 use Rattle.field.specs.Field.{byteOf, fieldOf, big}
@@ -28,6 +29,7 @@ use Rattle.setup.specs.Layout.{each, serverBytes, recordBytes, bytesOf}
 use Rattle.setup.specs.Read.{taskSize, taskChecks, tasksChecks, headSize, headChecks, serverSize, serverChecks, serversChecks, serversOf, serversSize}
 use Rattle.setup.specs.Read.{startChecks, endOf, setupChecks, tableOf, readWith, readOf}
 use Rattle.setup.specs.Records.{StartRight}
+use Rattle.setup.specs.declared.Reading.{Reading}
 use Rattle.setup.proofs.Records.{start-right}
 use Rattle.setup.proofs.Parsed.{field-bytes, Entry, servers-number, servers-read, servers-pass, servers-size, servers-most, ServersPassed, servers-passed, servers-all-bytes}
 
@@ -202,15 +204,14 @@ module _ (D W : ℕ) (bs : List ℕ) where
   nothing-holds : firstOf (setupChecks D W bs) .number ≡ 0 ↔ Passed (setupChecks D W bs)
   nothing-holds = passes (setupChecks D W bs) (ranged-numbered 1 13 (setupChecks D W bs) (omega arith) setup-ranged)
 
+  -- what the answer says of its refusal
+  pub read-decided : let r = firstOf (setupChecks D W bs) in Decided (λ (x : Reading). x .refusal) r (readWith none (tableOf bs)) (readWith r zeroTable) (readOf D W bs)
+  unfolding readOf
+  read-decided = decided (λ (x : Reading). x .refusal) (firstOf (setupChecks D W bs)) _ _ (readOf D W bs) refl refl refl
+
   -- the refusal is that of the first test that holds
   pub read-refusal : readOf D W bs .refusal ≡ firstOf (setupChecks D W bs)
-  unfolding readOf
-  read-refusal = go (eqb (firstOf (setupChecks D W bs) .number) 0) refl
-    where
-      go : (b : Bool) → eqb (firstOf (setupChecks D W bs) .number) 0 ≡ b
-          → pick b (readWith none (tableOf bs)) (readWith (firstOf (setupChecks D W bs)) zeroTable) .refusal ≡ firstOf (setupChecks D W bs)
-      go true e = sym (passed-none (setupChecks D W bs) (nothing-holds .0 (eqb-true _ 0 e)))
-      go false e = refl
+  read-refusal = read-decided .whole (λ e. passed-none (setupChecks D W bs) (nothing-holds .0 e))
 
   pub read-passed : readOf D W bs .refusal .number ≡ 0 ↔ Passed (setupChecks D W bs)
   read-passed = rw read-refusal nothing-holds

@@ -29,6 +29,7 @@ use Rattle.table.proofs.Soundness.{range-within, kind-known}
 use Rattle.setup.specs.Layout.{each, taskBytes, headBytes, serverBytes}
 use Rattle.setup.specs.Read.{taskSize, periodWrong, offsetWrong, taskChecks, releaseOf, taskOf, tasksChecks, tasksOf}
 use Rattle.setup.specs.Read.{headSize, headChecks, serverSize, serverChecks, serverOf, serversChecks, serversOf, serversSize}
+use Rattle.setup.proofs.Writing.{task-length, head-length, server-length}
 
 -- the bytes of a field
 pub field-bytes : (w at : ℕ) (bs : List ℕ) → Bytes bs → at + w ≤ length bs → big w (fieldOf w (drop at bs)) ≡ take w (drop at bs)
@@ -152,14 +153,6 @@ task-bytes t bs b h =
 
 -- A ROW OF TASKS
 
-task-length : (t : Task) → length (taskBytes t) ≡ taskSize
-unfolding taskBytes
-task-length t = refl
-
-tasks-length : (ts : List Task) → length (each taskBytes ts) ≡ taskSize * length ts
-tasks-length [] = refl
-tasks-length (t ∷ ts) = rw (length-append, task-length t, tasks-length ts) (omega arith)
-
 tasks-number : (n : ℕ) (bs : List ℕ) → length (tasksOf n bs) ≡ n
 tasks-number zero bs = refl
 tasks-number (suc n) bs = ap suc (tasks-number n (drop taskSize bs))
@@ -211,10 +204,6 @@ record IsHead (s : Server) (bs : List ℕ) : Type 0 where
   count : byteOf 1 bs ≡ s .count
   period : fieldOf 4 (drop 2 bs) ≡ s .period .0
   budget : fieldOf 4 (drop 6 bs) ≡ s .budget .0
-
-head-length : (s : Server) → length (headBytes s) ≡ headSize
-unfolding headBytes
-head-length s = refl
 
 head-written : (D W : ℕ) (s : Server) (rest : List ℕ) → D < 256 ^ 4 → SoundServer D W s → IsHead s (headBytes s ++ rest)
 unfolding headBytes
@@ -296,9 +285,8 @@ module _ (D W : ℕ) (s : Server) (h : Entry D W s) where
   used-filled : padded zeroTask entries (used s) ≡ s .tasks
   used-filled = rw (h .tasks) at (padded-take zeroTask (s .count) (s .tasks) (omega arith) (h .sound .unused))
 
-  server-length : length (serverBytes s) ≡ headSize + taskSize * s .count
-  unfolding serverBytes
-  server-length = rw (length-append, head-length s, tasks-length (used s), used-number)
+  entry-length : length (serverBytes s) ≡ headSize + taskSize * s .count
+  entry-length = server-length s (omega arith)
 
 module _ (D W : ℕ) (d : D < 256 ^ 4) (w : W < 256 ^ 4) (s : Server) (h : Entry D W s) (rest : List ℕ) where
   more : List ℕ
@@ -332,7 +320,7 @@ module _ (D W : ℕ) (d : D < 256 ^ 4) (w : W < 256 ^ 4) (s : Server) (h : Entry
       (rw (server-head .count, server-tasks) (more-passes (k + headSize)))
 
   server-size : serverSize (serverBytes s ++ rest) ≡ length (serverBytes s)
-  server-size = rw (server-head .count, server-length D W s h)
+  server-size = rw (server-head .count, entry-length D W s h)
 
   server-next : drop (serverSize (serverBytes s ++ rest)) (serverBytes s ++ rest) ≡ rest
   server-next = drop-at (serverBytes s) rest _ (sym server-size)
@@ -387,7 +375,7 @@ servers-number (suc n) bs = ap suc (servers-number n (drop (serverSize bs) bs))
 -- a server with eight tasks takes 114 bytes
 pub servers-most : (D W : ℕ) (ss : List Server) → All (Entry D W) ss → length (each serverBytes ss) ≤ 114 * length ss
 servers-most D W [] h = omega arith
-servers-most D W (s ∷ ss) h = rw (length-append, server-length D W s (h .0)) (omega (arith, h .0 .sound .count, servers-most D W ss (h .1)))
+servers-most D W (s ∷ ss) h = rw (length-append, entry-length D W s (h .0)) (omega (arith, h .0 .sound .count, servers-most D W ss (h .1)))
 
 module _ (D W : ℕ) (d : D < 256 ^ 4) (w : W < 256 ^ 4) where
   pub servers-read : (ss : List Server) (rest : List ℕ) → All (Entry D W) ss → serversOf (length ss) (each serverBytes ss ++ rest) ≡ ss

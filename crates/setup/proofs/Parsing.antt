@@ -1,7 +1,6 @@
 -- Reading records one behind the other, over any kind of record: of a server's tasks and of a setup's servers. Over any longest distance D and any most
 -- work W. Assumes nothing.
 use mathlib.Core.Path.{_≡_, refl, sym, ap, _∙_}
-use mathlib.Core.Bool.{Bool, true, false}
 use mathlib.Core.List.{List, [], _∷_, _++_}
 use Prim.Native.Nat.{ℕ, zero, suc, _+_, _*_, _-_, _≤_, _<_}
 use native.Mathlib.Nat.{add-assoc}
@@ -10,12 +9,13 @@ use native.Mathlib.Omega.{arith}
 use lib.Dec.{leb, ltb, eqb}
 use lib.ListN.{length, drop, set, replicate, length-drop}
 use lib.Seq.{drop-drop}
-use borrow.Author.Tests.{eq-eqb, ne-eqb, eqb-true, eqb-false, lt-ltb, le-ltb, ltb-false, leb-true, not-false}
+use borrow.Author.Tests.{eq-eqb, ne-eqb, eqb-true, lt-ltb, le-ltb, ltb-false, leb-true, not-false}
 use Rattle.refusal.specs.Small.{pick, padded}
 use Rattle.refusal.specs.Numbers.{bytesLeft}
 use Rattle.refusal.specs.Refusal.{refused, none, Check, firstOf}
 use Rattle.refusal.specs.declared.Refusal.{Refusal}
 use Rattle.refusal.proofs.Small.{both-right, padded-push}
+use Rattle.refusal.proofs.Decided.{Decided, decided}
 use Rattle.refusal.proofs.Exactly.{Numbered, numbered, numbered-append, first-append, neither-refuses, passes}
 use Rattle.field.specs.Field.{byteOf, fieldOf}
 use Rattle.table.specs.Limits.{entries}
@@ -28,23 +28,6 @@ use Rattle.setup.specs.declared.ServerRead.{ServerRead}
 use Rattle.setup.specs.declared.ServersRead.{ServersRead}
 use Rattle.setup.specs.Read.{taskSize, taskChecks, taskOf, tasksChecks, tasksOf, headSize, headChecks, serverChecks, serverOf, serverSize, serversChecks, serversOf, serversSize, startChecks, endOf, setupChecks, tableOf, readWith, readOf}
 use Rattle.setup.specs.Moves.{tasksWith, tasksReadOf, serverWith, serverReadOf, serversWith, serversReadOf}
-
--- AN ANSWER t that is `good` where nothing is refused and else `bad`, which holds the refusal f: its own refusal tells which
-pub record Answered {B : Type 0} (refusal : B → Refusal) (f : Refusal) (good bad t : B) : Type 0 where
-  pub refused : (refusal t .number ≡ 0 → ⊥) → (f .number ≡ 0 → ⊥) × (t ≡ bad)
-  pub passed : refusal t .number ≡ 0 → (f .number ≡ 0) × (t ≡ good)
-
-answered : {B : Type 0} (refusal : B → Refusal) (f : Refusal) (good bad t : B) → refusal good ≡ none → refusal bad ≡ f → t ≡ pick (eqb (f .number) 0) good bad → Answered refusal f good bad t
-answered refusal f good bad t g b = go (eqb (f .number) 0) refl
-  where
-    go : (x : Bool) → eqb (f .number) 0 ≡ x → t ≡ pick x good bad → Answered refusal f good bad t
-    go true p e =
-        let q : refusal t ≡ none = cc in
-        record { refused = λ o. absurd (o (ap (λ (x : Refusal). x .number) q)); passed = λ o. (eqb-true (f .number) 0 p, e) }
-    go false p e =
-        let n : f .number ≡ 0 → ⊥ = eqb-false (f .number) 0 p in
-        let q : refusal t ≡ f = cc in
-        record { refused = λ o. (n, e); passed = λ o. absurd (n (rw q at o)) }
 
 -- RECORDS
 
@@ -197,10 +180,10 @@ taskRecords D W = record {
   whole = task-whole D W;
 }
 
-tasks-answered : (D W n k : ℕ) (bs : List ℕ) (t : TasksRead) → t ≡ tasksReadOf D W n k bs
-    → let f = firstOf (tasksChecks D W n k bs) in Answered (λ t. t .refusal) f (tasksWith none (tasksOf n bs) (k + taskSize * n)) (tasksWith f [] 0) t
+tasks-decided : (D W n k : ℕ) (bs : List ℕ) (t : TasksRead) → t ≡ tasksReadOf D W n k bs
+    → let f = firstOf (tasksChecks D W n k bs) in Decided (λ t. t .refusal) f (tasksWith none (tasksOf n bs) (k + taskSize * n)) (tasksWith f [] 0) t
 unfolding tasksReadOf
-tasks-answered D W n k bs t e = answered (λ t. t .refusal) (firstOf (tasksChecks D W n k bs)) _ _ t refl refl e
+tasks-decided D W n k bs t e = decided (λ t. t .refusal) (firstOf (tasksChecks D W n k bs)) _ _ t refl refl e
 
 -- SERVERS
 
@@ -246,15 +229,15 @@ serverRecords D W = record {
   whole = server-whole D W;
 }
 
-pub server-answered : (D W k : ℕ) (bs : List ℕ) (t : ServerRead) → t ≡ serverReadOf D W k bs
-    → let f = firstOf (serverChecks D W k bs) in Answered (λ t. t .refusal) f (serverWith none (serverOf bs) (k + serverSize bs)) (serverWith f zeroServer 0) t
+pub server-decided : (D W k : ℕ) (bs : List ℕ) (t : ServerRead) → t ≡ serverReadOf D W k bs
+    → let f = firstOf (serverChecks D W k bs) in Decided (λ t. t .refusal) f (serverWith none (serverOf bs) (k + serverSize bs)) (serverWith f zeroServer 0) t
 unfolding serverReadOf
-server-answered D W k bs t e = answered (λ t. t .refusal) (firstOf (serverChecks D W k bs)) _ _ t refl refl e
+server-decided D W k bs t e = decided (λ t. t .refusal) (firstOf (serverChecks D W k bs)) _ _ t refl refl e
 
-servers-answered : (D W n k : ℕ) (bs : List ℕ) (t : ServersRead) → t ≡ serversReadOf D W n k bs
-    → let f = firstOf (serversChecks D W n k bs) in Answered (λ t. t .refusal) f (serversWith none (serversOf n bs) (k + serversSize n bs)) (serversWith f [] 0) t
+servers-decided : (D W n k : ℕ) (bs : List ℕ) (t : ServersRead) → t ≡ serversReadOf D W n k bs
+    → let f = firstOf (serversChecks D W n k bs) in Decided (λ t. t .refusal) f (serversWith none (serversOf n bs) (k + serversSize n bs)) (serversWith f [] 0) t
 unfolding serversReadOf
-servers-answered D W n k bs t e = answered (λ t. t .refusal) (firstOf (serversChecks D W n k bs)) _ _ t refl refl e
+servers-decided D W n k bs t e = decided (λ t. t .refusal) (firstOf (serversChecks D W n k bs)) _ _ t refl refl e
 
 -- A SERVER is refused by its head, or by its tasks t, or it is read with them
 module _ (D W k : ℕ) (bs : List ℕ) where
@@ -270,14 +253,14 @@ module _ (D W k : ℕ) (bs : List ℕ) where
     pub tasks-refused : (t .refusal .number ≡ 0 → ⊥) → serverReadOf D W k bs ≡ serverWith (t .refusal) zeroServer 0
     unfolding serverReadOf
     tasks-refused o =
-        let a = tasks-answered D W (byteOf 1 bs) (k + headSize) (drop headSize bs) t e .refused o in
+        let a = tasks-decided D W (byteOf 1 bs) (k + headSize) (drop headSize bs) t e .refused o in
         rw (server-checks-are, eq-eqb _ 0 h, ne-eqb _ 0 (a .0), a .1)
 
     pub server-read : t .refusal .number ≡ 0
         → serverReadOf D W k bs ≡ serverWith none record { tasks = t .tasks; count = byteOf 1 bs; kind = byteOf 0 bs; period = ticks (fieldOf 4 (drop 2 bs)); budget = served (fieldOf 4 (drop 6 bs)) } (t .next)
     unfolding serverReadOf serverOf
     server-read o =
-        let a = tasks-answered D W (byteOf 1 bs) (k + headSize) (drop headSize bs) t e .passed o in
+        let a = tasks-decided D W (byteOf 1 bs) (k + headSize) (drop headSize bs) t e .passed o in
         rw (server-checks-are, eq-eqb _ 0 h, eq-eqb _ 0 (a .0), a .1, add-assoc)
 
 -- A SETUP
@@ -313,20 +296,20 @@ module _ (D W : ℕ) (bs : List ℕ) where
     pub servers-refused : (t .refusal .number ≡ 0 → ⊥) → readOf D W bs ≡ readWith (t .refusal) zeroTable
     unfolding readOf
     servers-refused o =
-        let a = servers-answered D W (byteOf 3 bs) 4 (drop 4 bs) t e .refused o in
+        let a = servers-decided D W (byteOf 3 bs) 4 (drop 4 bs) t e .refused o in
         rw (setup-checks-are, eq-eqb _ 0 h, ne-eqb _ 0 (a .0), ne-eqb _ 0 (a .0), a .1)
 
     module _ (o : t .refusal .number ≡ 0) where
       pub bytes-left : t .next < length bs → readOf D W bs ≡ readWith (refused bytesLeft (t .next)) zeroTable
       unfolding readOf
       bytes-left l =
-          let a = servers-answered D W (byteOf 3 bs) 4 (drop 4 bs) t e .passed o in
+          let a = servers-decided D W (byteOf 3 bs) 4 (drop 4 bs) t e .passed o in
           let p : t .next ≡ endOf bs = ap (λ (x : ServersRead). x .next) (a .1) in
           rw (setup-checks-are, eq-eqb _ 0 h, eq-eqb _ 0 (a .0), ← p, lt-ltb (t .next) (length bs) l)
 
       pub setup-read : length bs ≤ t .next → readOf D W bs ≡ readWith none record { servers = t .servers; count = byteOf 3 bs }
       unfolding readOf tableOf
       setup-read l =
-          let a = servers-answered D W (byteOf 3 bs) 4 (drop 4 bs) t e .passed o in
+          let a = servers-decided D W (byteOf 3 bs) 4 (drop 4 bs) t e .passed o in
           let p : t .next ≡ endOf bs = ap (λ (x : ServersRead). x .next) (a .1) in
           rw (setup-checks-are, eq-eqb _ 0 h, eq-eqb _ 0 (a .0), ← p, le-ltb (t .next) (length bs) l, a .1)

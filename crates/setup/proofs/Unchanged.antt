@@ -1,33 +1,26 @@
 -- "A refusal answers its number, the place (0 where none is named below) and zero in every other part"; "Writers leave bytes past the output unchanged." The
 -- numbers and places stand in Refusals. Assumes nothing.
-use mathlib.Core.Path.{_≡_, refl, sym, _∙_}
-use mathlib.Core.Bool.{Bool, true, false}
+use mathlib.Core.Path.{_≡_, sym, ap, _∙_}
 use mathlib.Core.List.{List, _++_}
 use mathlib.Core.Logic.{_≢_}
 use Prim.Native.Nat.{ℕ}
-use lib.Dec.{eqb}
 use lib.ListN.{length, drop}
-use Rattle.refusal.specs.Small.{pick}
-use Rattle.refusal.specs.Refusal.{none, firstOf}
 use Rattle.field.specs.Write.{bufferAfter}
 use Rattle.field.proofs.Answers.{written-number, written-none, written-whole, buffer-same, buffer-whole, buffer-length}
 use Rattle.table.specs.Table.{zeroTable}
 use Rattle.table.specs.declared.Table.{Table}
 use Rattle.setup.specs.Layout.{bytesOf}
-use Rattle.setup.specs.Read.{setupChecks, tableOf, readWith, readOf}
+use Rattle.setup.specs.Read.{readOf}
 use Rattle.setup.specs.Write.{writeRefusal}
+use Rattle.setup.specs.declared.Reading.{Reading}
+use Rattle.setup.proofs.Accepted.{read-decided}
 use Rattle.setup.proofs.Refusals.{writeAnswer, write-accepted}
 
 -- THE READER
 
 -- refused, its table is zero in every part
 pub read-refused : (D W : ℕ) (bs : List ℕ) → readOf D W bs .refusal .number ≢ 0 → readOf D W bs .table ≡ zeroTable
-unfolding readOf
-read-refused D W bs = go (eqb (firstOf (setupChecks D W bs) .number) 0)
-  where
-    go : (b : Bool) → let a = pick b (readWith none (tableOf bs)) (readWith (firstOf (setupChecks D W bs)) zeroTable) in a .refusal .number ≢ 0 → a .table ≡ zeroTable
-    go true h = absurd (h refl)
-    go false h = refl
+read-refused D W bs h = ap (λ (x : Reading). x .table) (read-decided D W bs .refused h .1)
 
 -- THE WRITER, of a table t into a buffer
 

@@ -99,7 +99,7 @@ pub server-parts : (s : Server) → length (serverBytes s) ≡ headSize + length
 unfolding serverBytes
 server-parts s = rw (length-append, head-length s)
 
-server-length : (s : Server) → s .count ≤ length (s .tasks) → length (serverBytes s) ≡ headSize + taskSize * s .count
+pub server-length : (s : Server) → s .count ≤ length (s .tasks) → length (serverBytes s) ≡ headSize + taskSize * s .count
 server-length s h = rw (server-parts s, length-each taskBytes taskSize task-length, length-take-le (s .count) (s .tasks) h)
 
 pub table-length : (t : Table) → length (bytesOf t) ≡ 4 + length (recordBytes t)

@@ -5,12 +5,10 @@ use lib.Dec.{eqb}
 use Rattle.refusal.specs.Small.{pick, padded}
 use Rattle.refusal.specs.Refusal.{none, firstOf}
 use Rattle.refusal.specs.declared.Refusal.{Refusal}
-use Rattle.field.specs.Field.{byteOf}
 use Rattle.table.specs.Limits.{entries}
-use Rattle.table.specs.Table.{zeroTask, zeroServer, zeroTable}
+use Rattle.table.specs.Table.{zeroTask, zeroServer}
 use Rattle.table.specs.declared.Task.{Task}
 use Rattle.table.specs.declared.Server.{Server}
-use Rattle.table.specs.declared.Table.{Table}
 use Rattle.setup.specs.Read.{taskSize, tasksChecks, tasksOf, serverChecks, serverOf, serverSize, serversChecks, serversOf, serversSize}
 use Rattle.setup.specs.declared.TasksRead.{TasksRead}
 use Rattle.setup.specs.declared.ServerRead.{ServerRead}

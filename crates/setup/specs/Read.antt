@@ -1,6 +1,6 @@
 -- The setup reader: every test of document 01 in its order, each with its place; the first that holds is the refusal. "Setup: 1 to 4, then records in
 -- file order, each whole (5) before its fields in file order, then 13." D is the longest period and offset, W the most work.
-use mathlib.Core.Bool.{Bool, true, false, not}
+use mathlib.Core.Bool.{Bool, not}
 use mathlib.Core.List.{List, [], _∷_, _++_}
 use Prim.Native.Nat.{ℕ, zero, suc, _+_, _*_}
 use lib.Dec.{leb, ltb, eqb}

@@ -1,5 +1,4 @@
 -- The table's parts: what each case of a release is in the document's numbers, and what an unused entry holds.
-use mathlib.Core.List.{List}
 use Prim.Native.Nat.{ℕ}
 use lib.ListN.{replicate}
 use Rattle.queue.specs.declared.Distance.{Distance}

@@ -5,8 +5,6 @@ use native.Mathlib.Omega.{arith}
 use Rattle.queue.specs.Steps.{dueStep}
 use Rattle.queue.proofs.due.Statement.{statement}
 use Rattle.queue.proofs.due.Tie as tie
-use Rattle.queue.proofs.due.Reads as reads
-use Rattle.queue.proofs.due.Lts as lts
 
 returns : tie.Need-returns
 unfolding dueStep

@@ -1,12 +1,9 @@
 -- `queue::pace_of` meets its contract: each answer is the definition at the tests that led there.
 use borrow.Author.Needs.{needs}
 use borrow.Author.Tests.{eq-eqb, ne-eqb, le-leb, lt-leb}
-use native.Mathlib.Omega.{arith}
 use Rattle.queue.specs.Steps.{paceStep, firstCell}
 use Rattle.queue.proofs.pace_of.Statement.{statement}
 use Rattle.queue.proofs.pace_of.Tie as tie
-use Rattle.queue.proofs.pace_of.Reads as reads
-use Rattle.queue.proofs.pace_of.Lts as lts
 
 returns : tie.Need-returns
 unfolding paceStep

@@ -1,5 +1,5 @@
 -- `queue::take` meets its contract: on a sound queue with something due, the first cell is the first event (proofs/Ticking.antt).
-use mathlib.Core.Path.{_≡_, sym, ap, _∙_}
+use mathlib.Core.Path.{_≡_, sym, _∙_}
 use mathlib.Core.Bool.{true, false}
 use native.Mathlib.Omega.{arith}
 use borrow.Author.Needs.{needs}

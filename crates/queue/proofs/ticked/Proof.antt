@@ -6,10 +6,6 @@ use Rattle.queue.specs.Limits.{filler}
 use Rattle.queue.specs.Steps.{firstCell, tickStep}
 use Rattle.queue.proofs.ticked.Statement.{statement}
 use Rattle.queue.proofs.ticked.Tie as tie
-use Rattle.queue.proofs.ticked.Reads as reads
-use Rattle.queue.proofs.ticked.Lts as lts
-use Rattle.queue.proofs.nearer.Reads as nearer-reads
-use Rattle.queue.proofs.without_first.Reads as without-first-reads
 
 returns : tie.Need-returns
 unfolding tickStep

@@ -12,7 +12,7 @@ use Rattle.table.specs.Table.{zeroServer}
 use Rattle.table.specs.declared.Server.{Server}
 use Rattle.setup.specs.Moves.{serversReadOf}
 use Rattle.setup.specs.declared.ServersRead.{ServersRead}
-use Rattle.setup.proofs.Parsing.{SoFar, so-far-none, so-far-more, so-far-refused, so-far-all, serverRecords, server-answered}
+use Rattle.setup.proofs.Parsing.{SoFar, so-far-none, so-far-more, so-far-refused, so-far-all, serverRecords, server-decided}
 use Rattle.setup.proofs.read_servers.Statement.{statement}
 use Rattle.setup.proofs.read_servers.Tie as tie
 
@@ -46,7 +46,7 @@ returns c =
     let r = c .before .before .before .before in
     let l = r .before .before in
     let bs = drop (l .loop .next) (l .before .before .before .args .s .now) in
-    let a = server-answered longest mostWork (l .loop .next) bs (r .read-server .result) (r .read-server .ensures) .refused (c .before .if1 .taken) in
+    let a = server-decided longest mostWork (l .loop .next) bs (r .read-server .result) (r .read-server .ensures) .refused (c .before .if1 .taken) in
     rw (c .zero2 .ensures, a .1) (sym (so-far-refused (l .loop .inv) give (omega arith) (a .0)))
 
 mul-servers : tie.Need-mul-servers Inv-loop μ-loop
@@ -66,7 +66,7 @@ loop-again c =
     let r = c .before .before .before .before in
     let l = r .before .before in
     let bs = drop (l .loop .next) (l .before .before .before .args .s .now) in
-    let a = server-answered longest mostWork (l .loop .next) bs (r .read-server .result) (r .read-server .ensures) .passed (c .before .if1 .left) in
+    let a = server-decided longest mostWork (l .loop .next) bs (r .read-server .result) (r .read-server .ensures) .passed (c .before .if1 .left) in
     rw (a .1) (so-far-more (l .loop .inv) (omega arith) (omega arith) (a .0))
 
 none-requires : tie.Need-none-requires Inv-loop μ-loop

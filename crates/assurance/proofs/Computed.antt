@@ -1,0 +1,29 @@
+-- Demand 3's numbers, all by computing. Assumes nothing.
+use mathlib.Core.Path.{refl}
+use Rattle.queue.specs.Row.{cellsOf, queueOf, cellsFor}
+use Rattle.queue.specs.Sound.{sameb, soundb}
+use Rattle.queue.specs.Holds.{holdsb}
+use Rattle.queue.specs.Calls.{insertOf, clockOf, takeOf}
+use Rattle.table.specs.Sound.{tableb}
+use Rattle.scheduler.specs.Sound.{entryb, stateb}
+use Rattle.scheduler.specs.Choice.{wantsb, chosenOf, choiceOf}
+use Rattle.scheduler.specs.Arrive.{loadAfter, arriveOf}
+use Rattle.scheduler.specs.Tick.{charge, turnOf, served4, stateAfter, handledOf, againb, tickOf}
+use Rattle.scheduler.specs.Fresh.{freshQueue, freshEntry, freshState, freshOf}
+use Rattle.assurance.specs.Demand3.{sumBelow, ceil, mostHeld, sure, ticksOf, periodTicks, tally}
+use Rattle.assurance.specs.Worked.{Worked}
+
+pub worked : Worked
+unfolding insertOf clockOf takeOf holdsb soundb sameb cellsOf queueOf cellsFor tableb entryb stateb wantsb chosenOf choiceOf loadAfter arriveOf charge turnOf served4 stateAfter handledOf againb tickOf freshQueue freshEntry freshState freshOf sumBelow ceil mostHeld sure ticksOf periodTicks tally
+worked =
+    record {
+      worked-W = refl;
+      worked-sure = refl;
+      tight-sound = refl;
+      tight-whole = refl;
+      tight-wants = refl;
+      tight-W = refl;
+      tight-held = refl;
+      tight-sure = refl;
+      tight-runs = refl;
+    }

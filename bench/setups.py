@@ -1,0 +1,62 @@
+#!/usr/bin/env python3
+"""Writes the setups that bench/run measures into a folder: NAME.COUNT is a setup and, in two bytes, COUNT batches of ticks.
+
+    setups.py FOLDER COUNT...
+"""
+import pathlib
+import sys
+
+IDLING, DEFERRABLE = 1, 2
+
+
+def big(number, size):
+    return number.to_bytes(size, "big")
+
+
+def task(work, period=0, offset=0):
+    """A task with no period is released on arrival."""
+    return bytes([period > 0]) + big(work, 4) + big(period, 4) + big(offset, 4)
+
+
+def server(kind, period, budget, tasks):
+    return bytes([kind, len(tasks)]) + big(period, 4) + big(budget, 4) + b"".join(tasks)
+
+
+def setup(servers):
+    body = bytes([1, len(servers)]) + b"".join(servers)
+    return big(len(body) + 2, 2) + body
+
+
+def worked():
+    """Document 01's example."""
+    return setup([server(DEFERRABLE, 4, 2, [task(3)]), server(IDLING, 5, 2, [task(1, 5)])])
+
+
+def realistic():
+    """Eight servers of eight tasks, with periods of 10 to 2,000 ticks."""
+    steps = [1, 2, 4, 5, 8, 10, 16, 20]
+    servers = []
+    for i, period in enumerate([10, 15, 20, 30, 40, 50, 80, 100]):
+        tasks = [task(1 + j % 3, period * step, (7 * i + 3 * j) % period) for j, step in enumerate(steps)]
+        servers.append(server(DEFERRABLE if i % 2 else IDLING, period, max(1, period // 9), tasks))
+    return setup(servers)
+
+
+def fillers():
+    """Eight servers of eight tasks. Half of the tasks and one server have periods above 65,535; the others give about two events a tick."""
+    servers = []
+    for i in range(8):
+        near = [task(1, 31 + 3 * i + 5 * j, 1 + i + j) for j in range(4)]
+        far = [task(50, 70_000 + 130_000 * j + 1_000 * i, 66_000 * (1 + j)) for j in range(4)]
+        servers.append(server(DEFERRABLE if i % 2 else IDLING, 200_000 if i == 7 else 5 + i % 3, 20_000 if i == 7 else 1, near + far))
+    return setup(servers)
+
+
+def main():
+    folder = pathlib.Path(sys.argv[1])
+    for make in (worked, realistic, fillers):
+        for count in sys.argv[2:]:
+            (folder / f"{make.__name__}.{count}").write_bytes(make() + big(int(count), 2))
+
+
+main()

@@ -1,4 +1,4 @@
--- Demand 3 of document 01: what it says, over the scheduler's own tick and arrival call. Nothing here is proved; proofs/Assured.antt proves it.
+-- Demand 3, over the scheduler's own tick and arrival call. What is quoted is document 01's or the demand's own words. Nothing here is proved; proofs/Assured.antt proves it.
 use mathlib.Core.Path.{_≡_}
 use mathlib.Core.Bool.{Bool, not}
 use mathlib.Core.List.{List, [], _∷_}

@@ -12,7 +12,7 @@ use Rattle.field.specs.declared.Written.{Written}
 abbrev pub writtenWith : Refusal → ℕ → Written
 writtenWith r n = record { refusal = r; length = n }
 
--- "It answers the length written", and zero where it is refused
+-- how many bytes it wrote, and zero where it is refused
 abbrev pub written : Refusal → List ℕ → Written
 written r bytes = pick (eqb (r .number) 0) (writtenWith none (length bytes)) (writtenWith r 0)
 

@@ -1,13 +1,16 @@
 -- Laws of the queue as a list of cells: what its array holds, and how a loop walks it. Assumes nothing.
-use mathlib.Core.Path.{_≡_, sym, ap, _∙_}
+use mathlib.Core.Path.{_≡_, refl, sym, ap, _∙_}
+use mathlib.Core.Bool.{Bool, true, false}
 use mathlib.Core.List.{List, [], _∷_, _++_}
 use Prim.Native.Nat.{ℕ, zero, suc, _+_, _-_, _≤_, _<_}
 use native.Mathlib.Omega.{arith}
 use native.Mathlib.Numerals.{add-one}
+use lib.Dec.{leb}
 use lib.ListN.{length, getD, take, drop, replicate, drop-of-length-le}
-use lib.Seq.{drop-append-add, drop-cons, getD-take, length-take-le}
-use Rattle.refusal.specs.Small.{padded}
-use Rattle.refusal.proofs.Small.{take-padded}
+use lib.Seq.{drop-append-add, drop-cons, getD-take, length-take-le, take-nil}
+use borrow.Author.Tests.{leb-true, lt-leb}
+use Rattle.refusal.specs.Small.{pick, both, padded}
+use Rattle.refusal.proofs.Small.{both-false, take-padded}
 use Rattle.queue.specs.Limits.{cellCount}
 use Rattle.queue.specs.Row.{cell, cellsOf, queueOf}
 use Rattle.queue.specs.declared.Cell.{Cell}
@@ -63,3 +66,31 @@ module _ (q : Queue) (full : length (q .cells) ≡ cellCount) (fits : q .len ≤
   pub cells-end : (i : ℕ) → q .len ≤ i → drop i (cellsOf q) ≡ []
   unfolding cellsOf
   cells-end i k = let m : length (take (q .len) (q .cells)) ≡ q .len = cells-length in drop-of-length-le (take (q .len) (q .cells)) {i = i} (omega arith)
+
+-- THE ROW'S END, 0 where the length is none of a row
+
+-- where it is not 0 it is the length
+pub end-some : (l n : ℕ) → n ≡ pick (leb l cellCount) l 0 → 1 ≤ n → (l ≡ n) × (n ≤ cellCount)
+end-some l n e h = go (leb l cellCount) refl e
+  where
+    go : (b : Bool) → leb l cellCount ≡ b → n ≡ pick b l 0 → (l ≡ n) × (n ≤ cellCount)
+    go true t f = (sym f, omega (arith, leb-true l cellCount t))
+    go false t f = absurd (omega arith)
+
+-- and where it is 0 there is no row, or no cell in it
+pub end-none : (l n : ℕ) → n ≡ pick (leb l cellCount) l 0 → n ≡ 0 → both (leb 1 l) (leb l cellCount) ≡ false
+end-none l n e z = go (leb l cellCount) e
+  where
+    go : (b : Bool) → n ≡ pick b l 0 → both (leb 1 l) b ≡ false
+    go true f = rw (lt-leb 1 l (omega arith))
+    go false f = both-false (leb 1 l)
+
+-- the cells in use but the first
+drop-take : (n : ℕ) (cs : List Cell) → drop 1 (take n cs) ≡ take (n - 1) (drop 1 cs)
+drop-take zero cs = refl
+drop-take (suc n) [] = let e : suc n - 1 ≡ n = omega arith in rw e (sym (take-nil n))
+drop-take (suc n) (c ∷ cs) = let e : suc n - 1 ≡ n = omega arith in rw e
+
+pub rest-cells : (q : Queue) → drop 1 (cellsOf q) ≡ take (q .len - 1) (drop 1 (q .cells))
+unfolding cellsOf
+rest-cells q = drop-take (q .len) (q .cells)

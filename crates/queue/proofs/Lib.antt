@@ -9,6 +9,7 @@ pub mod Walking
 pub mod Moving
 pub mod Ticking
 pub mod Placing
+pub mod Passing
 pub mod Pushing
 pub mod Same
 pub mod OneOutcome

@@ -15,13 +15,14 @@ use Rattle.queue.proofs.time_left.Reads as time-left
 use Rattle.queue.proofs.clock.Reads as clock
 use Rattle.queue.proofs.take.Reads as take
 use Rattle.queue.proofs.push_back.Reads as push-back
-use Rattle.queue.proofs.pace_of.Reads as pace-of
+use Rattle.queue.proofs.falls.Reads as falls
 use Rattle.queue.proofs.due.Reads as due
 use Rattle.queue.proofs.first_id.Reads as first-id
 use Rattle.queue.proofs.nearer.Reads as nearer
 use Rattle.queue.proofs.without_first.Reads as without-first
 use Rattle.queue.proofs.ticked.Reads as ticked
 use Rattle.queue.proofs.placed.Reads as placed
+use Rattle.queue.proofs.again.Reads as again
 
 pub empty-one : One empty.Post (λ κs x e. x)
 empty-one κs a x y e f p q = same p q
@@ -54,8 +55,8 @@ push-back-one κs a x y e f p q = same p q
 
 -- the total steps
 
-pub pace-one : One pace-of.Post (λ κs x e. x)
-pace-one κs a x y e f p q = same p q
+pub falls-one : One falls.Post (λ κs x e. x)
+falls-one κs a x y e f p q = same p q
 
 pub due-one : One due.Post (λ κs x e. x)
 due-one κs a x y e f p q = same p q
@@ -74,6 +75,9 @@ tick-one κs a x y e f p q = same p q
 
 pub place-one : One placed.Post (λ κs x e. x)
 place-one κs a x y e f p q = same p q
+
+pub again-one : One again.Post (λ κs x e. x)
+again-one κs a x y e f p q = same p q
 
 -- the calls on a queue that is lent, for which the checker makes no `Reads`: their contracts' words, as src/lib.rt has them, of the answer and of the
 -- queue that the lender has afterwards

@@ -1,14 +1,15 @@
 -- The clock and the take on cells: on the normal form they are the clock and the take on the events, over any largest gap M. Assumes nothing.
 use mathlib.Core.Path.{_≡_, refl, sym, ap, _∙_}
 use mathlib.Core.Bool.{Bool, true, false}
-use mathlib.Core.List.{List, [], _∷_, _++_, append-assoc}
+use mathlib.Core.List.{List, [], _∷_, _++_}
 use Prim.Native.Nat.{ℕ, zero, suc, _+_, _-_, _*_, _/_, _≤_, _<_}
 use native.Mathlib.Omega.{arith}
+use native.Mathlib.Numerals.{add-one}
 use native.Mathlib.Nat.{zero-mul, suc-mul}
 use lib.Dec.{eqb}
 use lib.ListN.{length, getD, take, drop, set, replicate, length-drop}
-use lib.Seq.{length-take-le, getD-append-add, getD-drop}
-use borrow.Author.Tests.{eq-eqb, ne-eqb, lt-ltb, le-ltb, eqb-true, eqb-false}
+use lib.Seq.{length-take-le, getD-append-add, getD-drop, drop-cons, set-at}
+use borrow.Author.Tests.{eq-eqb, ne-eqb, lt-ltb, le-ltb, le-leb, eqb-true, eqb-false}
 use Rattle.refusal.specs.Small.{pick, both, padded}
 use Rattle.queue.specs.Limits.{cellCount, filler}
 use Rattle.queue.specs.Row.{Event, cell, cellsOf, queueOf, eventsOf, chain, cellsFor, normal}
@@ -16,7 +17,7 @@ use Rattle.queue.specs.Calls.{dueb, earlier, dueId, withoutDue, formed}
 use Rattle.queue.specs.Steps.{firstCell, dueStep, lessHead, nearerStep, restStep, tickStep}
 use Rattle.queue.specs.declared.Cell.{Cell}
 use Rattle.queue.specs.declared.Queue.{Queue}
-use Rattle.queue.proofs.Cells.{made-len, made-row}
+use Rattle.queue.proofs.Cells.{made-cells, made-len, made-row, made-past}
 use Rattle.queue.proofs.Normal.{sorted, proper, sorted-events, proper-events, chain-of, one-cell, split}
 use Rattle.queue.proofs.Soundness.{Sound}
 use Rattle.queue.proofs.Events.{normal-earlier, not-due, due-later, due-first}
@@ -58,15 +59,26 @@ down-step (c ∷ ys) (suc j) p h =
     let b : suc j + 1 - 1 ≡ suc j = omega arith in
     rw (a, b) (down-move j c ys (omega arith))
 
-down-last : (c : Cell) (ys : List Cell) (z : Cell) → set (take (length ys) ys ++ drop (length ys) (c ∷ ys)) (length ys) z ≡ ys ++ (z ∷ [])
-down-last c [] z = refl
-down-last c (y ∷ ys) z = ap {B = List Cell} (λ l. y ∷ l) (down-last y ys z)
+-- a store at the place that is left
+pub down-store : (xs : List Cell) (n : ℕ) (z : Cell) → n < length xs → set (down n xs) n z ≡ take n (drop 1 xs) ++ (z ∷ drop (n + 1) xs)
+down-store xs n z h =
+    let k : length (take n (drop 1 xs)) ≡ n = length-take-le n (drop 1 xs) (rw length-drop (omega arith)) in
+    rw (add-one, drop-cons xs n (cell 0 0) h) (set-at (take n (drop 1 xs)) (getD xs n (cell 0 0)) (drop (suc n) xs) z n k)
 
-pub down-end : (xs : List Cell) (n : ℕ) (z : Cell) → length xs ≡ suc n → set (down n xs) n z ≡ drop 1 xs ++ (z ∷ [])
-down-end [] n z h = absurd (omega arith)
-down-end (c ∷ ys) n z h =
-    let e : n ≡ length ys = omega arith in
-    rw e (down-last c ys z)
+-- and at the next too
+stores : (j : ℕ) (c : Cell) (ys : List Cell) (x y : Cell) → j < length ys
+    → set (set (take j ys ++ drop j (c ∷ ys)) (suc j) y) j x ≡ take j ys ++ (x ∷ y ∷ drop (suc j) ys)
+stores j c [] x y h = absurd (omega arith)
+stores zero c (z ∷ ys) x y h = refl
+stores (suc j) c (z ∷ ys) x y h = ap {B = List Cell} (λ l. z ∷ l) (stores j z ys x y (omega arith))
+
+pub down-stores : (xs : List Cell) (i : ℕ) (x y : Cell) → 1 ≤ i → i < length xs
+    → set (set (down (i - 1) xs) i y) (i - 1) x ≡ take (i - 1) (drop 1 xs) ++ (x ∷ y ∷ drop (i + 1) xs)
+down-stores [] i x y p h = absurd (omega arith)
+down-stores (c ∷ ys) zero x y p h = absurd (omega arith)
+down-stores (c ∷ ys) (suc j) x y p h =
+    let a : suc j - 1 ≡ j = omega arith in
+    rw (a, add-one) (stores j c ys x y (omega arith))
 
 -- ON CELLS
 
@@ -81,10 +93,6 @@ tickCells [] = []
 tickCells (c ∷ cs) = pick (both (eqb (c .id) filler) (eqb (c .gap) 1)) cs (cell (c .id) (c .gap - 1) ∷ cs)
 
 -- what the total steps are on a queue that is made of cells
-one-zero-more : {A : Type 0} (z : A) (k : ℕ) → replicate k z ++ (z ∷ []) ≡ replicate (suc k) z
-one-zero-more z zero = refl
-one-zero-more {A} z (suc k) = ap {B = List A} (λ l. z ∷ l) (one-zero-more z k)
-
 module _ (q : Queue) where
   pub made-due : (cs : List Cell) → q ≡ queueOf cs → dueStep q ≡ nowb cs
   unfolding dueStep
@@ -95,14 +103,12 @@ module _ (q : Queue) where
   unfolding restStep queueOf
   made-rest c cs e h =
       let l : q .len ≡ suc (length cs) = made-len q (c ∷ cs) e in
-      let n : eqb (q .len) 0 ≡ false = ne-eqb (q .len) 0 (λ z. omega arith) in
-      let k : suc (cellCount - suc (length cs)) ≡ cellCount - length cs = omega arith in
-      let f : drop 1 (q .cells) ++ (cell 0 0 ∷ []) ≡ padded (cell 0 0) cellCount cs =
-      ap (λ (l : List Cell). drop 1 l ++ (cell 0 0 ∷ [])) (made-row q (c ∷ cs) e)
-      ∙ append-assoc cs (replicate (cellCount - suc (length cs)) (cell 0 0)) (cell 0 0 ∷ [])
-      ∙ ap (λ (l : List Cell). cs ++ l) (one-zero-more (cell 0 0) (cellCount - suc (length cs)) ∙ ap (λ (n : ℕ). replicate n (cell 0 0)) k) in
+      let k : suc (cellCount - q .len) ≡ cellCount - length cs = omega arith in
+      let z : drop (q .len) (q .cells) ≡ replicate (cellCount - q .len) (cell 0 0) = made-past q (c ∷ cs) e (q .len) (omega arith) in
+      let f : drop 1 (cellsOf q) ++ (cell 0 0 ∷ drop (q .len) (q .cells)) ≡ padded (cell 0 0) cellCount cs =
+      rw (made-cells q (c ∷ cs) e, z) (ap (λ (n : ℕ). cs ++ replicate n (cell 0 0)) k) in
       let m : q .len - 1 ≡ length cs = omega arith in
-      rw n (λ i. record { cells = f i; len = m i })
+      rw (le-leb 1 (q .len) (omega arith), le-leb (q .len) cellCount h) (λ i. record { cells = f i; len = m i })
 
   pub made-nearer : (c : Cell) (cs : List Cell) → q ≡ queueOf (c ∷ cs) → nearerStep q ≡ queueOf (cell (c .id) (c .gap - 1) ∷ cs)
   unfolding nearerStep queueOf

@@ -46,6 +46,16 @@ sumOf (c ∷ cs) = c .id + c .gap + sumOf cs
 abbrev pub part : ℕ → ℕ → List Cell → List Cell
 part from to cs = take (to - from) (drop from cs)
 
+-- each cell up to an event has the largest gap
+abbrev pub fullb : ℕ → List Cell → Bool
+fullb M [] = false
+fullb M (c ∷ cs) = pick (eqb (c .gap) M) (pick (eqb (c .id) filler) (fullb M cs) true) false
+
+-- an event with this gap before these cells is one cell, and needs no other change of theirs than that their first gap falls
+abbrev pub plainb : ℕ → ℕ → List Cell → Bool
+plainb M gap [] = leb gap M
+plainb M gap (c ∷ cs) = pick (eqb (c .id) filler) (fullb M cs) true
+
 -- the walk past one cell: how many cells are passed, the place behind the last event among them, its distance, and the distance of the last cell
 abbrev pub walk : ℕ → ℕ → ℕ → ℕ → Walk
 walk next start last at = record { next = next; start = start; last = last; at = at }

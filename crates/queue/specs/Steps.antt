@@ -14,8 +14,6 @@ use Rattle.queue.specs.Calls.{changed}
 use Rattle.queue.specs.declared.Cell.{Cell}
 use Rattle.queue.specs.declared.Queue.{Queue}
 use Rattle.queue.specs.declared.Changed.{Changed}
-use Rattle.queue.specs.declared.Pace.{Pace}
-use Rattle.queue.specs.declared.Pace.the-variants.{Still, Falls, Ends}
 
 -- what stands first
 abbrev pub firstCell : Queue → Cell
@@ -33,18 +31,21 @@ lessHead (c ∷ cs) = cell (c .id) (c .gap - 1) ∷ cs
 unfoldable pub nearerStep : Queue → Queue
 nearerStep q = record { cells = lessHead (q .cells); len = q .len }
 
--- the first cell goes, and every other stands one place further down
+-- the first cell goes, every other in use stands one place further down, and the last one's place is zero
 unfoldable pub restStep : Queue → Queue
-restStep q = pick (eqb (q .len) 0) q (record { cells = drop 1 (q .cells) ++ (cell 0 0 ∷ []); len = q .len - 1 })
+restStep q =
+    pick (both (leb 1 (q .len)) (leb (q .len) cellCount))
+    (record { cells = drop 1 (cellsOf q) ++ (cell 0 0 ∷ drop (q .len) (q .cells)); len = q .len - 1 })
+    q
 
 -- a clock tick: the first gap falls by 1, and a filler that reaches 0 goes
 unfoldable pub tickStep : Queue → Queue
 tickStep q =
     pick (eqb (q .len) 0) q (pick (both (eqb (firstCell q .id) filler) (eqb (firstCell q .gap) 1)) (restStep q) (nearerStep q))
 
--- what a clock tick does: nothing; the first gap falls and stays above 0; or it ends (a filler goes, or an event is due)
-unfoldable pub paceStep : Queue → Pace
-paceStep q = pick (eqb (q .len) 0) Still (pick (leb (firstCell q .gap) 1) Ends Falls)
+-- the first gap falls at a clock tick and stays above 0
+unfoldable pub fallsStep : Queue → Bool
+fallsStep q = ltb 1 (firstCell q .gap)
 
 -- what stands up to the next event, counted from t, put together anew so that it counts from u
 abbrev pub regrouped : ℕ → ℕ → ℕ → List Cell → List Cell
@@ -71,3 +72,7 @@ placeStep M q id d =
     let row = placeCells M id d (cellsOf q) in
     changed (firstOf (check unsound (ltb cellCount (q .len)) ∷ check noRoom (ltb cellCount (length row)) ∷ [])) q
     (record { cells = row ++ drop (length row) (q .cells); len = length row })
+
+-- the first cell goes, and its event is put in again, d away
+unfoldable pub againStep : ℕ → Queue → ℕ → Queue
+againStep M q d = placeStep M (restStep q) (firstCell q .id) d .queue

@@ -15,8 +15,8 @@ ghost use Rattle.queue.specs.Sound.{soundb};
 ghost use Rattle.queue.specs.Holds.{holdsb};
 ghost use Rattle.queue.specs.Calls.{acceptedWith, refusedWith, insertOf, removeOf, timeLeftOf, clockOf, takeOf, pushBackOf};
 ghost use Rattle.queue.specs.Lent.{tookOf, apartOf};
-ghost use Rattle.queue.specs.Steps.{firstCell, dueStep, nearerStep, restStep, tickStep, paceStep, placeStep};
-ghost use Rattle.queue.specs.Moves.{seenb, spacedb, gapsOf, sumOf, passOf, Passed, nextOf, Sought, nowhereFound, chainFor, chainTo, linkOf, linksOf, queueWith, movedTo, pushCells};
+ghost use Rattle.queue.specs.Steps.{firstCell, dueStep, fallsStep, nearerStep, restStep, tickStep, placeStep, againStep};
+ghost use Rattle.queue.specs.Moves.{seenb, fullb, plainb, spacedb, gapsOf, sumOf, passOf, Passed, nextOf, Sought, nowhereFound, chainFor, chainTo, linkOf, linksOf, queueWith, movedTo, pushCells};
 
 // An event (id 0 to 254) or a filler (id 255), with its gap to the cell before it. The first gap counts from now.
 pub struct Cell {
@@ -333,24 +333,12 @@ fn take_apart(q: Queue) -> Apart
 
 // THE TOTAL STEPS: no `requires`, and an outcome for every row. On a sound queue they are the calls (proofs/Same.antt).
 
-// What a clock tick does to a queue: nothing; its first gap falls and stays above 0; or its first gap ends.
-pub enum Pace {
-    Still,
-    Falls,
-    Ends,
-}
-
-pub fn pace_of(q: Queue) -> Pace
-    ensures { λ r. ⌜ r ≡ paceStep q ⌝ }
+// Whether the first gap falls at a clock tick and stays above 0.
+pub fn falls(q: Queue) -> bool
+    ensures { λ r. ⌜ r ≡ fallsStep q ⌝ }
 {
-    if q.len == 0 {
-        return Pace::Still;
-    }
     let c = q.cells[0];
-    if c.gap <= 1 {
-        return Pace::Ends;
-    }
-    Pace::Falls
+    1 < c.gap
 }
 
 // Whether an event stands at distance 0.
@@ -387,22 +375,22 @@ pub fn nearer(q: Queue) -> Queue
     next
 }
 
-// The first cell goes, and every other moves one place down.
+// The first cell goes, every other in use moves one place down, and the last one's place is cleared.
 pub fn without_first(q: Queue) -> Queue
     ensures { λ r. ⌜ r ≡ restStep q ⌝ }
 {
-    let n = q.len;
+    let n = row_end(q);
     if n == 0 {
         return q;
     }
     let mut next = q;
     let mut i: usize = 1;
-    while i < Queue::CELLS {
+    while i < n {
         let c = next.cells[i];
         next.cells[i - 1] = c;
         i = i + 1;
     }
-    next.cells[Queue::CELLS - 1] = Cell { id: 0, gap: 0 };
+    next.cells[n - 1] = Cell { id: 0, gap: 0 };
     next.len = n - 1;
     next
 }
@@ -444,6 +432,48 @@ pub fn placed(q: Queue, id: u8, delay: Distance) -> Changed
     let rest = moved(q, n.behind, to);
     let more = linked(rest, at, then, n.id);
     accept(linked(more, w.start, own, id))
+}
+
+// The first cell goes, and its event is put in again: each cell that it passes moves one place down, and the next gap falls. Where its new place is not plain
+// it is taken out and put in.
+pub fn again(q: Queue, delay: Distance) -> Queue
+    ensures { λ r. ⌜ r ≡ againStep maxGap q (delay .0) ⌝ }
+{
+    let n = row_end(q);
+    let d = delay.0;
+    let f = q.cells[0];
+    let mut next = q;
+    let mut filler = n == 0;
+    let mut at: u32 = 0;
+    let mut i: usize = 1;
+    while i < n {
+        let c = next.cells[i];
+        let to = at + (c.gap as u32);
+        if d < to {
+            break;
+        }
+        next.cells[i - 1] = c;
+        filler = c.id == Queue::FILLER;
+        at = to;
+        i = i + 1;
+    }
+    let gap = d - at;
+    if !plain(q, i, gap, filler) {
+        let p = placed(without_first(q), f.id, delay);
+        return p.queue;
+    }
+    if i < n {
+        let c = next.cells[i];
+        next.cells[i] = Cell {
+            id: c.id,
+            gap: c.gap - (gap as u16),
+        };
+    }
+    next.cells[i - 1] = Cell {
+        id: f.id,
+        gap: gap as u16,
+    };
+    next
 }
 
 // ANSWERS
@@ -775,6 +805,58 @@ fn cleared(q: Queue, to: usize) -> Queue
         i = i + 1;
     }
     next
+}
+
+// PUTTING IN AGAIN
+
+// How many cells are in use; 0 where the length is none of a row.
+fn row_end(q: Queue) -> usize
+    ensures { λ r. ⌜ r ≡ pick (leb (q .len) cellCount) (q .len) 0 ⌝ }
+{
+    let n = q.len;
+    if Queue::CELLS < n {
+        return 0;
+    }
+    n
+}
+
+// Whether an event that comes this far behind the cell before place i is one cell, and changes no cell from there on but the next gap. `filler`: that cell is one.
+fn plain(q: Queue, i: usize, gap: u32, filler: bool) -> bool
+    requires { ⌜ («filler» ≡ false → q .len ≤ cellCount) ⌝ }
+    ensures { λ r. ⌜ r ≡ pick «filler» false (plainb maxGap gap (drop i (cellsOf q))) ⌝ }
+{
+    if filler {
+        return false;
+    }
+    let n = q.len;
+    if n <= i {
+        return gap <= Queue::MAX_GAP;
+    }
+    let c = q.cells[i];
+    if c.id != Queue::FILLER {
+        return true;
+    }
+    full(q, i + 1)
+}
+
+// Whether each cell from a place on, up to an event, has the largest gap.
+fn full(q: Queue, from: usize) -> bool
+    requires { ⌜ q .len ≤ cellCount ⌝ }
+    ensures { λ r. ⌜ r ≡ fullb maxGap (drop from (cellsOf q)) ⌝ }
+{
+    let n = q.len;
+    let mut i = from;
+    while i < n {
+        let c = q.cells[i];
+        if c.gap != Queue::FULL {
+            return false;
+        }
+        if c.id != Queue::FILLER {
+            return true;
+        }
+        i = i + 1;
+    }
+    false
 }
 
 // PUSHING BACK

@@ -9,7 +9,6 @@ use native.Mathlib.Omega.{arith}
 use lib.Dec.{leb}
 use lib.ListN.{length}
 use borrow.Author.Tests.{leb-true, le-leb}
-use Rattle.refusal.specs.Small.{pick}
 use Rattle.refusal.proofs.Small.{both-left, both-right}
 use Rattle.queue.specs.Limits.{longest}
 use Rattle.queue.specs.Row.{eventsOf}
@@ -19,13 +18,14 @@ use Rattle.table.specs.declared.Server.{Server}
 use Rattle.scheduler.specs.State.{mostPending, taskAt}
 use Rattle.scheduler.specs.Sound.{taskReaches, entryb}
 use Rattle.scheduler.specs.Arrive.{fitsb, loadAfter, withArrival}
-use Rattle.scheduler.specs.Tick.{charge, dueIds, arrivedLoads, served4}
-use Rattle.scheduler.specs.Moves.{taskDelay, pendingBelow, tabledb, Clocked, Arriving, oneArrival, dueTurn, withQueue, servedTurn, before4}
+use Rattle.scheduler.specs.Tick.{dueIds, arrivedLoads, served4}
+use Rattle.scheduler.specs.Moves.{taskDelay, pendingBelow, tabledb, Clocked, Arriving, oneArrival, dueTurn, withQueue, servedTurn}
 use Rattle.scheduler.specs.declared.Load.{Load}
 use Rattle.scheduler.specs.declared.Entry.{Entry}
+use Rattle.scheduler.proofs.Lists.{length-alter}
 use Rattle.scheduler.proofs.Stated.{EntryStated, entry-stated, ServerStated, loads-below, work-below}
 use Rattle.scheduler.proofs.Turns.{Turned, turned, came-more, none-due, due-few, due-in, turn-is, ticked-turning}
-use Rattle.scheduler.proofs.TickSound.{charge-sound, fill-sound, task-delayed}
+use Rattle.scheduler.proofs.TickSound.{task-delayed}
 
 -- A SERVER OF A SOUND TABLE, in use or not
 
@@ -90,6 +90,11 @@ module _ (s : Server) (e : Entry) where
         rw (arrival-turned .first) in
         λ i. record { loads = l i; arrivals = came-more (taskDelay s) (e .arrivals) arrival-turned i .queue; budget = e .budget }
 
+  -- there are as many loads as before
+  pub arrival-length : length (oneArrival s e .loads) ≡ length (e .loads)
+  unfolding oneArrival
+  arrival-length = length-alter _ (e .loads) (firstCell (e .arrivals) .id)
+
   -- at most 8 are due
   pub arrivals-few : Clocked s e → dueTurn s e .handled ≤ entries
   unfolding dueTurn
@@ -133,20 +138,3 @@ module _ (s : Server) (e : Entry) (t : tabledb s ≡ true) (h : entryb s e ≡ t
   -- at most 8 are due
   pub served-few : servedTurn s e .handled ≤ entries
   served-few = rw served-ticked (arrivals-few s (withQueue (tickStep (e .arrivals)) e) ticked-clocked)
-
--- BEFORE STEP 4: the charge, where the entry is chosen, and the refill, where that is due, keep it sound and leave its queue as it is
-
-charge-if : (s : Server) (e : Entry) → entryb s e ≡ true → (chosen : Bool) → entryb s (pick chosen (charge e) e) ≡ true
-charge-if s e h true = charge-sound s e h
-charge-if s e h false = h
-
-pub before-sound : (s : Server) (e : Entry) → entryb s e ≡ true → (chosen due : Bool) → entryb s (before4 (s .budget .0) chosen due e) ≡ true
-before-sound s e h chosen true = fill-sound s (pick chosen (charge e) e) (charge-if s e h chosen)
-before-sound s e h chosen false = charge-if s e h chosen
-
-pub before-arrivals : (full : ℕ) (e : Entry) (chosen due : Bool) → before4 full chosen due e .arrivals ≡ e .arrivals
-unfolding charge
-before-arrivals full e true true = refl
-before-arrivals full e true false = refl
-before-arrivals full e false true = refl
-before-arrivals full e false false = refl

@@ -2,6 +2,7 @@
 use mathlib.Core.Path.{_≡_, refl, sym, ap}
 use mathlib.Core.Bool.{Bool, true, false}
 use mathlib.Core.List.{List}
+use mathlib.Core.Logic.{_↔_}
 use Prim.Native.Nat.{ℕ, _≤_, _<_}
 use native.Mathlib.Omega.{arith}
 use lib.Dec.{ltb, eqb}
@@ -15,7 +16,8 @@ use Rattle.table.specs.Table.{zeroServer}
 use Rattle.table.specs.Sound.{serverb, zeroServerb}
 use Rattle.scheduler.specs.State.{zeroLoad, zeroEntry, serverAt, entryAt}
 use Rattle.scheduler.specs.Sound.{loadb, zeroLoadb, stateb}
-use Rattle.scheduler.specs.Choice.{pendingb, firstPending, somePending, wantsb, chosenOf, choiceOf, servesb}
+use Rattle.scheduler.specs.Choice.{pendingb, firstPending, somePending, wantsb, chosenOf, choiceOf, servesb, choiceNumber}
+use Rattle.scheduler.specs.Tick.{tickOf}
 use Rattle.scheduler.specs.Meaning.{SizedState, readyAt, pendingAt, Highest, Chosen}
 use Rattle.scheduler.specs.declared.Load.{Load}
 use Rattle.scheduler.specs.declared.Entry.{Entry}
@@ -24,7 +26,7 @@ use Rattle.scheduler.specs.declared.Choice.the-variants.{Idle, Burning, 
 use Rattle.scheduler.proofs.Stated.{Stated, stated, entry-stated}
 use Rattle.scheduler.proofs.Choosing.{FirstOf, first-pending, some-first, first-ready}
 use Rattle.scheduler.proofs.Turns.{in-use}
-use Rattle.scheduler.proofs.TickSound.{table-used}
+use Rattle.scheduler.proofs.TickSound.{table-used, tick-accepts}
 
 -- a server that wants the tick with no work pending is idling
 wants-idling : (kind : ℕ) (e : Entry) → somePending (e .loads) ≡ false → wantsb kind e ≡ true → kind ≡ 1
@@ -111,6 +113,38 @@ module _ (s : State) (z : SizedState s) (h : stateb s ≡ true) where
           let m : length ls ≤ j = omega (arith, z .loads k l, ltb-false j entries q) in
           let n : somePending ls ≡ false = rw (some-first ls) (le-ltb j (length ls) m) in
           (t, record { idling = wants-idling (serverAt s k .kind) (entryAt s k) n (both-left _ _ (t .ready)); none = none-pending m })
+
+  -- The number of a tick's choice: 0 (idle) exactly when no server wants and has budget; 1 (burning) exactly when the highest that does is an idling server
+  -- without work; 2 (running) exactly when it has work pending, in the first such task of it
+  pub choice-number : let n = choiceNumber (tickOf s .choice) in
+      let k = chosenOf s in
+      (n ≡ 0 ↔ Chosen s Idle) × (n ≡ 1 ↔ Chosen s (Burning k)) × (n ≡ 2 ↔ Chosen s (Running k (firstPending (entryAt s k .loads))))
+  unfolding choiceOf
+  choice-number = rw (tick-accepts s h) (go (ltb k entries) (ltb j entries) chosen-first)
+    where
+      k : ℕ
+      k = chosenOf s
+
+      j : ℕ
+      j = firstPending (entryAt s k .loads)
+
+      go : (a b : Bool) → let c = pick a (pick b (Running k j) (Burning k)) Idle in
+          Chosen s c → (choiceNumber c ≡ 0 ↔ Chosen s Idle) × (choiceNumber c ≡ 1 ↔ Chosen s (Burning k)) × (choiceNumber c ≡ 2 ↔ Chosen s (Running k j))
+      go false b x = (
+        (λ n. x, λ y. refl),
+        (λ n. absurd (omega arith), λ y. contrary (y .0 .ready) (x k)),
+        (λ n. absurd (omega arith), λ y. contrary (y .0 .ready) (x k)),
+      )
+      go true false x = (
+        (λ n. absurd (omega arith), λ y. contrary (x .0 .ready) (y k)),
+        (λ n. x, λ y. refl),
+        (λ n. absurd (omega arith), λ y. contrary (y .1 .pending) (x .1 .none j)),
+      )
+      go true true x = (
+        (λ n. absurd (omega arith), λ y. contrary (x .0 .ready) (y k)),
+        (λ n. absurd (omega arith), λ y. contrary (x .1 .pending) (y .1 .none j)),
+        (λ n. x, λ y. refl),
+      )
 
 -- whom a choice serves
 pub serves-chosen : (s : State) (i : ℕ) → i < entries → servesb (choiceOf s) i ≡ eqb (chosenOf s) i

@@ -9,7 +9,7 @@ use Rattle.table.specs.Meaning.{Sized}
 use Rattle.table.specs.declared.Task.{Task}
 use Rattle.table.specs.declared.Server.{Server}
 use Rattle.table.specs.declared.Table.{Table}
-use Rattle.scheduler.specs.State.{zeroEntry, serverAt, taskAt}
+use Rattle.scheduler.specs.State.{zeroEntry, serverAt, entryAt, taskAt}
 use Rattle.scheduler.specs.Choice.{firstPending, chosenOf}
 use Rattle.scheduler.specs.Arrive.{loadAfter, withArrival, withLoads, arriveOf}
 use Rattle.scheduler.specs.Tick.{lessWork, charge, dueIn, withBudget, refilled, fullAt, arrivedLoads, served4, eachEntry, chargedEntries, stateAfter}
@@ -35,7 +35,7 @@ pub charge-count : (e : Entry) → length (charge e .loads) ≡ length (e .loads
 unfolding charge
 charge-count e = length-alter lessWork (e .loads) (firstPending (e .loads))
 
-pub refilled-length : (full : ℕ → ℕ) (ids : List ℕ) (es : List Entry) → length (refilled full ids es) ≡ length es
+refilled-length : (full : ℕ → ℕ) (ids : List ℕ) (es : List Entry) → length (refilled full ids es) ≡ length es
 refilled-length full [] es = refl
 refilled-length full (id ∷ ids) es = refilled-length full ids _ ∙ length-alter (withBudget (full id)) es id
 
@@ -59,16 +59,25 @@ served-count (s ∷ ss) [] i = refl
 served-count (s ∷ ss) (e ∷ es) zero = arrived-count s (dueIn (e .arrivals)) (e .loads)
 served-count (s ∷ ss) (e ∷ es) (suc i) = served-count ss es i
 
-pub tick-sized : (s : State) → SizedState s → SizedState (stateAfter s)
-unfolding stateAfter
-tick-sized s z =
-    let ss = s .table .servers in
-    let ids = dueIn (s .refills) in
-    record {
-      table = z .table;
-      servers = served-length ss _ ∙ refilled-length (fullAt s) ids (chargedEntries s) ∙ length-alter charge (s .entries) (chosenOf s) ∙ z .servers;
-      loads = λ i h. served-count ss _ i ∙ refilled-count (fullAt s) ids (chargedEntries s) i ∙ alter-count charge charge-count (s .entries) (chosenOf s) i ∙ z .loads i h;
-    }
+module _ (s : State) where
+  -- the entries before step 4
+  pub before-length : length (refilled (fullAt s) (dueIn (s .refills)) (chargedEntries s)) ≡ length (s .entries)
+  before-length = refilled-length (fullAt s) (dueIn (s .refills)) (chargedEntries s) ∙ length-alter charge (s .entries) (chosenOf s)
+
+  pub tick-length : length (stateAfter s .entries) ≡ length (s .entries)
+  unfolding stateAfter
+  tick-length = served-length (s .table .servers) _ ∙ before-length
+
+  pub tick-loads : (i : ℕ) → length (entryAt (stateAfter s) i .loads) ≡ length (entryAt s i .loads)
+  unfolding stateAfter
+  tick-loads i =
+      served-count (s .table .servers) _ i
+      ∙ refilled-count (fullAt s) (dueIn (s .refills)) (chargedEntries s) i
+      ∙ alter-count charge charge-count (s .entries) (chosenOf s) i
+
+  pub tick-sized : SizedState s → SizedState (stateAfter s)
+  unfolding stateAfter
+  tick-sized z = record { table = z .table; servers = tick-length ∙ z .servers; loads = λ i h. tick-loads i ∙ z .loads i h }
 
 -- AN ARRIVAL
 

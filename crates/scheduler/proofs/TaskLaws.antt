@@ -2,11 +2,12 @@
 use mathlib.Core.Path.{_≡_, refl, sym, ap, _∙_}
 use mathlib.Core.Bool.{Bool, true, false, not}
 use mathlib.Core.List.{List, [], _∷_}
+use mathlib.Core.Logic.{_↔_}
 use Prim.Native.Nat.{ℕ, zero, suc, _+_, _-_, _≤_, _<_}
 use native.Mathlib.Omega.{arith}
-use lib.Dec.{ltb, eqb}
+use lib.Dec.{leb, ltb, eqb}
 use lib.ListN.{length, getD}
-use borrow.Author.Tests.{ltb-false, ne-eqb, eqb-true, not-true, le-leb, lt-leb}
+use borrow.Author.Tests.{leb-true, leb-false, ltb-false, ne-eqb, eqb-true, not-true, le-leb, lt-leb}
 use Rattle.refusal.specs.Small.{pick, both, alter}
 use Rattle.refusal.proofs.Small.{both-left, both-right, both-false, neither-right, contrary}
 use Rattle.queue.specs.Limits.{maxGap, longest}
@@ -25,7 +26,7 @@ use Rattle.table.specs.declared.Server.{Server}
 use Rattle.scheduler.specs.State.{mostPending, load, zeroLoad, zeroEntry, serverAt, entryAt, taskAt}
 use Rattle.scheduler.specs.Sound.{taskReaches, serverReaches, entryb, entriesb, stateb}
 use Rattle.scheduler.specs.Choice.{firstPending, chosenOf, choiceOf}
-use Rattle.scheduler.specs.Arrive.{lostAfter, loadAfter, withArrival, withLoads, arriveOf}
+use Rattle.scheduler.specs.Arrive.{arrivalBy, arrivalNumber, lostAfter, loadAfter, withArrival, withLoads, arriveOf}
 use Rattle.scheduler.specs.Tick.{lessWork, charge, clocked, dueIds, dueIn, withBudget, refilled, fullAt, arrivedLoads, served4, eachEntry, dueEvents, chargedEntries, stateAfter, handledOf}
 use Rattle.scheduler.specs.Meaning.{SizedState, loadAt, arrivalThere, arrivalAway, runsb, dueNext, allDueNext}
 use Rattle.scheduler.specs.declared.Load.{Load}
@@ -36,7 +37,7 @@ use Rattle.scheduler.proofs.Lists.{length-alter}
 use Rattle.scheduler.proofs.Altered.{read-altered, alter-keeps}
 use Rattle.scheduler.proofs.Unchanged.{arrive-done}
 use Rattle.scheduler.proofs.Stated.{Stated, stated, entry-stated, every-server}
-use Rattle.scheduler.proofs.KeptSizes.{charge-count, refilled-length}
+use Rattle.scheduler.proofs.KeptSizes.{charge-count, before-length}
 use Rattle.scheduler.proofs.HeldEach.{HeldEach, held-each, held-rests}
 use Rattle.scheduler.proofs.Again.{inb, ids-in, one-away, Moved, held-due, held-moved}
 use Rattle.scheduler.proofs.TickSound.{taskPeriod, task-delayed, state-parts}
@@ -123,7 +124,7 @@ module _ (s : State) (z : SizedState s) (h : stateb s ≡ true) (i : ℕ) (l : i
   after : entryAt (stateAfter s) i ≡ served4 (serverAt s i) before
   unfolding stateAfter
   after =
-      let n : length (refilled (fullAt s) (dueIn (s .refills)) (chargedEntries s)) ≡ entries = refilled-length (fullAt s) (dueIn (s .refills)) (chargedEntries s) ∙ length-alter charge (s .entries) (chosenOf s) ∙ z .servers in
+      let n = before-length s ∙ z .servers in
       each-at served4 (s .table .servers) _ i (omega (arith, z .table .servers)) (omega arith)
 
   same-arrivals : before .arrivals ≡ entryAt s i .arrivals
@@ -200,6 +201,20 @@ load-added E l h = rw (le-leb (l .pending .0 + E) mostPending h)
 pub load-lost : (E : ℕ) (l : Load) → mostPending < l .pending .0 + E → loadAfter E l ≡ load (l .pending .0) (lostAfter (l .lost))
 unfolding loadAfter
 load-lost E l h = rw (lt-leb (l .pending .0 + E) mostPending h)
+
+-- "It says accepted or lost.": the number of what a call that is not refused says is 0 (accepted) exactly when the pending work with E is at most 1,000,000,
+-- and 1 (lost) exactly when it would be above
+pub arrival-number : (s : State) (i j : ℕ) → arriveOf s i j .refusal .number ≡ 0 → let n = arrivalNumber (arriveOf s i j .arrival) in
+    let w = loadAt s i j .pending .0 + taskAt (serverAt s i) j .work .0 in
+    (n ≡ 0 ↔ (w ≤ mostPending)) × (n ≡ 1 ↔ (mostPending < w))
+arrival-number s i j a = rw (arrive-done s i j a) (go (leb w mostPending) refl)
+  where
+    w : ℕ
+    w = loadAt s i j .pending .0 + taskAt (serverAt s i) j .work .0
+
+    go : (b : Bool) → leb w mostPending ≡ b → (arrivalNumber (arrivalBy b) ≡ 0 ↔ (w ≤ mostPending)) × (arrivalNumber (arrivalBy b) ≡ 1 ↔ (mostPending < w))
+    go true e = let l = leb-true w mostPending e in ((λ n. l, λ m. refl), (λ n. absurd (omega arith), λ m. absurd (omega arith)))
+    go false e = let l = leb-false w mostPending e in ((λ n. absurd (omega arith), λ m. absurd (omega arith)), (λ n. l, λ m. refl))
 
 -- an arrival call that is not refused: its task's load takes it, and every other load is as it was
 pub arrive-load : (s : State) → SizedState s → (i j : ℕ) → arriveOf s i j .refusal .number ≡ 0 → (k m : ℕ) → k < entries → m < entries

@@ -1,33 +1,42 @@
--- A tick, entry by entry: what each entry comes to and how many events are handled; and what the soundness of the state gives for each. Assumes nothing.
-use mathlib.Core.Path.{_≡_, refl, ap, _∙_}
-use mathlib.Core.Bool.{Bool, true, false}
+-- A tick of a sound state, part by part, as a loop over the state's parts does it: the choice and the charge, and step 4 over the servers' queues, entry by
+-- entry. Each law takes what the code reads and stores. Assumes nothing.
+use mathlib.Core.Path.{_≡_, refl, sym, ap, _∙_}
+use mathlib.Core.Bool.{true, false}
 use mathlib.Core.List.{List, [], _∷_, _++_, append-nil, append-assoc}
-use Prim.Native.Nat.{ℕ, zero, suc, _+_, _≤_, _<_}
+use Prim.Native.Nat.{ℕ, zero, suc, _+_, _*_, _≤_, _<_}
 use native.Mathlib.Numerals.{add-one}
 use native.Mathlib.Omega.{arith}
 use lib.Dec.{ltb, eqb}
-use lib.ListN.{length, getD, set, take, drop, replicate, length-append, getD-replicate, drop-of-length-le}
-use lib.Seq.{take-suc, take-all, drop-cons, getD-at, set-at}
-use borrow.Author.Tests.{eqb-true, eqb-false}
-use Rattle.refusal.specs.Small.{pick, alter}
+use lib.ListN.{length, getD, set, take, drop, length-append, drop-of-length-le}
+use lib.Seq.{take-suc, take-all, drop-cons, getD-at, set-at, set-getD}
+use borrow.Author.Tests.{le-ltb}
+use Rattle.refusal.specs.Small.{alter}
 use Rattle.refusal.proofs.Small.{both-right}
+use Rattle.queue.specs.Limits.{maxGap, longest}
+use Rattle.queue.specs.Sound.{soundb}
+use Rattle.queue.specs.Steps.{dueStep, fallsStep, nearerStep, tickStep}
+use Rattle.queue.specs.declared.Queue.{Queue}
+use Rattle.queue.proofs.Same.{falls-tick, still-tick}
 use Rattle.table.specs.Limits.{entries}
 use Rattle.table.specs.Table.{zeroServer}
 use Rattle.table.specs.declared.Server.{Server}
-use Rattle.scheduler.specs.State.{zeroEntry, serverAt, entryAt}
+use Rattle.table.specs.declared.Table.{Table}
+use Rattle.scheduler.specs.State.{zeroLoad, zeroEntry, serverAt, entryAt}
 use Rattle.scheduler.specs.Sound.{entryb, stateb}
-use Rattle.scheduler.specs.Choice.{readyb, wantsb, chosenOf}
-use Rattle.scheduler.specs.Tick.{charge, withBudget, refilled, dueIn, dueEvents, fullAt, served4, chargedEntries, stateAfter, handledOf}
-use Rattle.scheduler.specs.Moves.{tabledb, servedTurn, before4, flagged}
+use Rattle.scheduler.specs.Choice.{firstPending, readyb, wantsb, chosenOf, choiceBy, choiceOf}
+use Rattle.scheduler.specs.Tick.{charge, withBudget, refilled, dueIn, dueEvents, served4, eachEntry, chargedEntries, stateAfter, handledOf}
+use Rattle.scheduler.specs.Moves.{tabledb, withQueue, servedTurn}
 use Rattle.scheduler.specs.declared.Entry.{Entry}
 use Rattle.scheduler.specs.declared.EntryTurn.{EntryTurn}
 use Rattle.scheduler.specs.declared.State.{State}
-use Rattle.scheduler.proofs.Lists.{getD-alter-same, getD-alter-other, length-alter}
-use Rattle.scheduler.proofs.Stated.{every-server, Eight, Stated, stated}
-use Rattle.scheduler.proofs.Choosing.{FirstOf, first-ready}
-use Rattle.scheduler.proofs.KeptSizes.{refilled-length, served-length}
+use Rattle.scheduler.proofs.Lists.{pastServer, pastEntry, getD-inside, set-alter, length-alter, alter-past}
+use Rattle.scheduler.proofs.Stated.{every-server, entry-stated, held, Eight, stated}
+use Rattle.scheduler.proofs.Choosing.{FirstOf, first-ready, first-pending}
+use Rattle.scheduler.proofs.TickSound.{state-parts, before-sound, tick-sound}
+use Rattle.scheduler.proofs.KeptSizes.{served-length, before-length, tick-length, tick-loads}
 use Rattle.scheduler.proofs.TaskLaws.{each-at}
-use Rattle.scheduler.proofs.Arrivals.{tabled, served-few, before-sound, before-arrivals}
+use Rattle.scheduler.proofs.Arrivals.{tabled, served-few, served-none}
+use Rattle.scheduler.proofs.Refilling.{Refilled}
 
 -- A LIST REPLACED PLACE BY PLACE: the first i are the new ones, the others as they were
 
@@ -46,10 +55,10 @@ module _ {A : Type 0} (f : ℕ → A) where
   firsts-length (suc i) = rw length-append (omega (arith, firsts-length i))
 
   module _ (xs : List A) (i : ℕ) (z : A) (h : i < length xs) where
-    pub firsts-at : getD (firsts f i ++ drop i xs) i z ≡ getD xs i z
+    firsts-at : getD (firsts f i ++ drop i xs) i z ≡ getD xs i z
     firsts-at = rw (drop-cons xs i z) (getD-at (firsts f i) (getD xs i z) (drop (suc i) xs) z i (firsts-length i))
 
-    pub firsts-more : set (firsts f i ++ drop i xs) i (f i) ≡ firsts f (i + 1) ++ drop (i + 1) xs
+    firsts-more : set (firsts f i ++ drop i xs) i (f i) ≡ firsts f (i + 1) ++ drop (i + 1) xs
     firsts-more = rw (add-one, append-assoc, drop-cons xs i z h) (set-at (firsts f i) (getD xs i z) (drop (suc i) xs) (f i) i (firsts-length i))
 
   firsts-take : (ys : List A) (z : A) (i : ℕ) → i ≤ length ys → ((j : ℕ) → j < length ys → getD ys j z ≡ f j) → firsts f i ≡ take i ys
@@ -64,120 +73,233 @@ module _ {A : Type 0} (f : ℕ → A) where
       rw (drop-of-length-le xs h, append-nil)
       (firsts-take ys z n (omega arith) (λ j k. r j (omega arith)) ∙ take-all n ys (omega arith))
 
--- THE PARTS OF THE TICK, by the place
+-- STEP 4 OVER THE SERVERS' QUEUES
 
--- a list with the entry at c changed
-alter-at : {A : Type 0} (f : A → A) (xs : List A) (c i : ℕ) (z : A) → i < length xs → getD (alter f xs c) i z ≡ pick (eqb i c) (f (getD xs i z)) (getD xs i z)
-alter-at f xs c i z h = go (eqb i c) refl
-  where
-    go : (b : Bool) → eqb i c ≡ b → getD (alter f xs c) i z ≡ pick b (f (getD xs i z)) (getD xs i z)
-    go true e = rw (← eqb-true i c e) (getD-alter-same f xs i z h)
-    go false e = getD-alter-other f xs c i z (eqb-false i c e)
+-- what it makes of the entry at a place, and how many of its arrivals are due
+abbrev pub turnAt : Table → List Entry → ℕ → EntryTurn
+turnAt t es i = servedTurn (getD (t .servers) i zeroServer) (getD es i zeroEntry)
 
--- the entry at i has its full budget exactly where it is flagged
-refilled-at : (full : ℕ → ℕ) (i : ℕ) (e : Entry) (ids : List ℕ) (es : List Entry) (bs : List Bool) → i < length es → i < length bs
-    → getD es i zeroEntry ≡ pick (getD bs i false) (withBudget (full i) e) e
-    → getD (refilled full ids es) i zeroEntry ≡ pick (getD (flagged ids bs) i false) (withBudget (full i) e) e
-refilled-at full i e [] es bs h k r = r
-refilled-at full i e (id ∷ ids) es bs h k r =
-    refilled-at full i e ids (alter (withBudget (full id)) es id) (alter (λ (b : Bool). true) bs id)
-    (rw (length-alter (withBudget (full id)) es id) h) (rw (length-alter (λ (b : Bool). true) bs id) k)
-    (rw (alter-at (withBudget (full id)) es id i zeroEntry h, alter-at (λ (b : Bool). true) bs id i false k, r) (go (eqb i id) (getD bs i false) refl))
-  where
-    go : (a b : Bool) → eqb i id ≡ a → pick a (withBudget (full id) (pick b (withBudget (full i) e) e)) (pick b (withBudget (full i) e) e) ≡ pick (pick a true b) (withBudget (full i) e) e
-    go true true p = rw (eqb-true i id p)
-    go true false p = rw (eqb-true i id p)
-    go false b p = refl
+-- a table and entries that are sound, place by place
+pub record Fitting (t : Table) (es : List Entry) : Type 0 where
+  pub servers : length (t .servers) ≡ entries
+  pub full : length es ≡ entries
+  pub tabled : (i : ℕ) → i < entries → tabledb (getD (t .servers) i zeroServer) ≡ true
+  pub sound : (i : ℕ) → i < entries → entryb (getD (t .servers) i zeroServer) (getD es i zeroEntry) ≡ true
+
+-- the first i entries have been served, the others are as they were, and n counts the arrivals of those beside what was handled before
+pub record Serving (t : Table) (es₀ : List Entry) (n₀ : ℕ) (es : List Entry) (n i : ℕ) : Type 0 where
+  pub fitting : Fitting t es₀
+  pub place : i ≤ entries
+  pub served : es ≡ firsts (λ j. turnAt t es₀ j .entry) i ++ drop i es₀
+  pub handled : n ≡ n₀ + sumTo (λ j. turnAt t es₀ j .handled) i
+  pub few : n ≤ entries + entries * i
+
+pub serve-start : {t : Table} {es : List Entry} {n : ℕ} → Fitting t es → n ≤ entries → Serving t es n es n 0
+serve-start f h = record { fitting = f; place = omega arith; served = refl; handled = omega arith; few = omega arith }
+
+module _ {t : Table} {es₀ es : List Entry} {n₀ n i : ℕ} (v : Serving t es₀ n₀ es n i) (l : i < entries) where
+  -- what the code reads at i, which is as it was
+  abbrev server : Server
+  server = getD (t .servers) i pastServer
+
+  abbrev entry : Entry
+  entry = getD es i pastEntry
+
+  server-is : server ≡ getD (t .servers) i zeroServer
+  server-is = getD-inside (t .servers) i pastServer zeroServer (omega (arith, v .fitting .servers))
+
+  inside : i < length es₀
+  inside = omega (arith, v .fitting .full)
+
+  entry-is : entry ≡ getD es₀ i zeroEntry
+  entry-is =
+      ap (λ (x : List Entry). getD x i pastEntry) (v .served)
+      ∙ firsts-at (λ j. turnAt t es₀ j .entry) es₀ i pastEntry inside
+      ∙ getD-inside es₀ i pastEntry zeroEntry inside
+
+  pub serve-tabled : tabledb server ≡ true
+  serve-tabled = rw server-is (v .fitting .tabled i l)
+
+  pub serve-sound : entryb server entry ≡ true
+  serve-sound = rw (server-is, entry-is) (v .fitting .sound i l)
+
+  pub serve-few : servedTurn server entry .handled ≤ entries
+  serve-few = served-few server entry serve-tabled serve-sound
+
+  -- it is served
+  pub serve-more : (r : EntryTurn) → r ≡ servedTurn server entry → Serving t es₀ n₀ (set es i (r .entry)) (n + r .handled) (i + 1)
+  serve-more r d =
+      let e : r ≡ turnAt t es₀ i = d ∙ (λ k. servedTurn (server-is k) (entry-is k)) in
+      let m : sumTo (λ j. turnAt t es₀ j .handled) (i + 1) ≡ sumTo (λ j. turnAt t es₀ j .handled) i + turnAt t es₀ i .handled = rw add-one in
+      let g : r .handled ≡ turnAt t es₀ i .handled = ap (λ (x : EntryTurn). x .handled) e in
+      let f : r .handled ≤ entries = rw d serve-few in
+      record {
+        fitting = v .fitting;
+        place = omega arith;
+        served = (λ k. set (v .served k) i (e k .entry)) ∙ firsts-more (λ j. turnAt t es₀ j .entry) es₀ i zeroEntry inside;
+        handled = omega (arith, v .handled);
+        few = omega (arith, v .few);
+      }
+
+  -- where the clock leaves nothing due only its queue changes
+  serve-none : (q : Queue) → tickStep (entry .arrivals) ≡ q → dueStep (tickStep (entry .arrivals)) ≡ false
+      → Serving t es₀ n₀ (set es i (withQueue q entry)) n (i + 1)
+  serve-none q e d =
+      let r = served-none server entry serve-tabled serve-sound d ∙ (λ k. record { entry = withQueue (e k) entry; handled = 0 }) in
+      let k : n + 0 ≡ n = omega arith in
+      rw k at (serve-more _ (sym r))
+
+  -- its first gap falls
+  pub serve-falls : {y : Entry} → fallsStep (entry .arrivals) ≡ true → y ≡ withQueue (nearerStep (entry .arrivals)) entry
+      → Serving t es₀ n₀ (set es i y) n (i + 1)
+  serve-falls h e =
+      let q = entry .arrivals in
+      let s : soundb maxGap longest q ≡ true = held _ q .0 (entry-stated server entry .0 serve-sound .arrivals) .sound in
+      let k = falls-tick maxGap longest q s h in
+      rw e (serve-none (nearerStep q) (k .0) (k .1))
+
+  -- it has no event
+  pub serve-still : eqb (entry .arrivals .len) 0 ≡ true → Serving t es₀ n₀ es n (i + 1)
+  serve-still h =
+      let k = still-tick (entry .arrivals) h in
+      rw (set-getD es i pastEntry) at (serve-none (entry .arrivals) (k .0) (k .1))
+
+-- THE HANDLED COUNT
+
+-- a change that leaves the queues as they are leaves what is due in them
+due-altered : (f : Entry → Entry) → ((e : Entry) → f e .arrivals ≡ e .arrivals) → (es : List Entry) (i : ℕ) → dueEvents (alter f es i) ≡ dueEvents es
+due-altered f k [] i = refl
+due-altered f k (e ∷ es) zero = ap (λ (q : Queue). length (dueIn q) + dueEvents es) (k e)
+due-altered f k (e ∷ es) (suc i) = ap (λ (n : ℕ). length (dueIn (e .arrivals)) + n) (due-altered f k es i)
+
+due-refilled : (full : ℕ → ℕ) (ids : List ℕ) (es : List Entry) → dueEvents (refilled full ids es) ≡ dueEvents es
+due-refilled full [] es = refl
+due-refilled full (id ∷ ids) es = due-refilled full ids _ ∙ due-altered (withBudget (full id)) (λ e. refl) es id
 
 due-append : (es fs : List Entry) → dueEvents (es ++ fs) ≡ dueEvents es + dueEvents fs
 due-append [] fs = omega arith
 due-append (e ∷ es) fs = omega (arith, due-append es fs)
 
--- OF A STATE WITH ITS EIGHT ENTRIES
+due-sum : (t : Table) (es : List Entry) (i : ℕ) → i ≤ length es → dueEvents (take i es) ≡ sumTo (λ j. turnAt t es j .handled) i
+unfolding servedTurn
+due-sum t es zero h = refl
+due-sum t es (suc i) h =
+    let l : i < length es = omega arith in
+    rw (take-suc es i zeroEntry l, due-append, due-sum t es i (omega arith)) (omega arith)
 
--- whose budget a tick sets
-abbrev pub flags : State → List Bool
-flags s = flagged (dueIn (s .refills)) (replicate entries false)
+-- A STATE THAT TICKS: sound, with its eight entries of eight loads each
 
--- what a tick makes of the entry at a place, where c is chosen and these budgets are set
-abbrev pub turnIn : List Server → List Entry → ℕ → List Bool → ℕ → EntryTurn
-turnIn ss es c full i = servedTurn (getD ss i zeroServer) (before4 (getD ss i zeroServer .budget .0) (eqb i c) (getD full i false) (getD es i zeroEntry))
+pub record Ticking (s : State) : Type 0 where
+  pub sound : stateb s ≡ true
+  pub eight : Eight s
+  pub loads : (i : ℕ) → i < entries → length (entryAt s i .loads) ≡ entries
 
-abbrev pub turnAt : State → ℕ → EntryTurn
-turnAt s = turnIn (s .table .servers) (s .entries) (chosenOf s) (flags s)
+-- and so does the next
+pub tick-kept : (s : State) → Ticking s → Ticking (stateAfter s)
+unfolding stateAfter
+tick-kept s k = record {
+  sound = tick-sound s (k .sound);
+  eight = record { servers = k .eight .servers; entries = tick-length s ∙ k .eight .entries };
+  loads = λ i h. tick-loads s i ∙ k .loads i h;
+}
 
-module _ (s : State) (z : Eight s) where
-  after-length : length (stateAfter s .entries) ≡ length (s .entries)
-  unfolding stateAfter
-  after-length =
-      served-length (s .table .servers) _
-      ∙ refilled-length (fullAt s) (dueIn (s .refills)) (chargedEntries s)
-      ∙ length-alter charge (s .entries) (chosenOf s)
+-- i is chosen, and in it task j: the entries after the charge, and what the tick answers
+pub record Charged (s : State) (i j : ℕ) (es : List Entry) : Type 0 where
+  pub charged : es ≡ chargedEntries s
+  pub task : j ≤ entries
+  pub choice : choiceBy i j ≡ choiceOf s
 
-  module _ (i : ℕ) (l : i < entries) where
-    -- the entry after the tick
-    pub after-at : getD (stateAfter s .entries) i zeroEntry ≡ turnAt s i .entry
-    unfolding stateAfter servedTurn
-    after-at =
-        let e = pick (eqb i (chosenOf s)) (charge (entryAt s i)) (entryAt s i) in
-        let n : i < length (chargedEntries s) = rw (length-alter charge (s .entries) (chosenOf s)) (omega (arith, z .entries)) in
-        let b : getD (replicate entries false) i false ≡ false = getD-replicate entries i false false l in
-        let c : getD (chargedEntries s) i zeroEntry ≡ pick (getD (replicate entries false) i false) (withBudget (fullAt s i) e) e =
-        rw b (alter-at charge (s .entries) (chosenOf s) i zeroEntry (omega (arith, z .entries))) in
-        each-at served4 (s .table .servers) (refilled (fullAt s) (dueIn (s .refills)) (chargedEntries s)) i (omega (arith, z .servers))
-        (rw (refilled-length (fullAt s) (dueIn (s .refills)) (chargedEntries s)) n)
-        ∙ ap (served4 (serverAt s i)) (refilled-at (fullAt s) i e (dueIn (s .refills)) (chargedEntries s) (replicate entries false) n l c)
-
-    due-more : dueEvents (take (suc i) (s .entries)) ≡ dueEvents (take i (s .entries)) + turnAt s i .handled
-    unfolding servedTurn
-    due-more =
-        let n : i < length (s .entries) = omega (arith, z .entries) in
-        rw (take-suc (s .entries) i zeroEntry n, due-append, before-arrivals (fullAt s i) (entryAt s i) (eqb i (chosenOf s)) (getD (flags s) i false))
-        (omega arith)
-
-  due-sum : (i : ℕ) → i ≤ entries → dueEvents (take i (s .entries)) ≡ sumTo (λ j. turnAt s j .handled) i
-  due-sum zero h = refl
-  due-sum (suc i) h = due-more i h ∙ ap (λ (n : ℕ). n + turnAt s i .handled) (due-sum i (omega arith))
+module _ (s : State) (k : Ticking s) where
+  -- STEPS 1 TO 3
 
   -- the chosen one is the first that is ready
   chosen-first : FirstOf (λ (i : ℕ). readyb (serverAt s i .kind) (entryAt s i)) (length (s .table .servers)) (chosenOf s)
   unfolding chosenOf
-  chosen-first = first-ready (s .table .servers) (s .entries) (omega (arith, z .servers, z .entries)) zeroServer zeroEntry
+  chosen-first = first-ready (s .table .servers) (s .entries) (omega (arith, k .eight .servers, k .eight .entries)) zeroServer zeroEntry
 
-  pub chosen-within : chosenOf s ≤ entries
-  chosen-within = omega (arith, z .servers, chosen-first .below)
+  module _ {i : ℕ} (c : i ≡ chosenOf s) where
+    pub chosen-within : i ≤ entries
+    chosen-within = omega (arith, k .eight .servers, chosen-first .below)
 
-  -- the entries and the count after all places
-  pub turns-entries : firsts (λ j. turnAt s j .entry) entries ++ drop entries (s .entries) ≡ stateAfter s .entries
-  turns-entries =
-      firsts-all (λ j. turnAt s j .entry) (s .entries) (stateAfter s .entries) zeroEntry entries (omega (arith, z .entries)) (omega (arith, z .entries, after-length))
-      after-at
+    -- one is: what the code reads of its entry, which has budget
+    module _ (l : i < entries) where
+      abbrev chosen : Entry
+      chosen = getD (s .entries) i pastEntry
 
-  pub turns-handled : length (dueIn (s .refills)) + sumTo (λ j. turnAt s j .handled) entries ≡ handledOf s
-  unfolding handledOf
-  turns-handled =
-      let e : take entries (s .entries) ≡ s .entries = take-all entries (s .entries) (omega (arith, z .entries)) in
-      rw (← due-sum entries (omega arith), e)
+      chosen-inside : i < length (s .entries)
+      chosen-inside = omega (arith, k .eight .entries)
 
-  -- where the state is sound
-  module _ (h : stateb s ≡ true) where
-    parts : Stated s
-    parts = stated s z .0 h
+      chosen-is : chosen ≡ entryAt s (chosenOf s)
+      chosen-is = getD-inside (s .entries) i pastEntry zeroEntry chosen-inside ∙ ap (entryAt s) c
 
-    module _ (i : ℕ) (l : i < entries) where
-      pub server-tabled : tabledb (serverAt s i) ≡ true
-      server-tabled = tabled (serverAt s i) .1 (every-server (s .table) (parts .servers) i l)
+      pub chosen-budget : ltb 0 (chosen .budget .0) ≡ true
+      chosen-budget =
+          rw chosen-is (both-right (wantsb (serverAt s (chosenOf s) .kind) (entryAt s (chosenOf s))) _ (chosen-first .here (omega (arith, k .eight .servers))))
 
-      pub entry-sound : entryb (serverAt s i) (entryAt s i) ≡ true
-      entry-sound = parts .entry i l
+      pub charge-one : {j : ℕ} {es : List Entry} → j ≡ firstPending (chosen .loads) → es ≡ set (s .entries) i (charge chosen) → Charged s i j es
+      unfolding choiceOf
+      charge-one {j = j} f e =
+          let t : j ≡ firstPending (entryAt s (chosenOf s) .loads) = f ∙ ap (λ (x : Entry). firstPending (x .loads)) chosen-is in
+          let h : chosenOf s < entries = omega arith in
+          record {
+            charged = e ∙ set-alter charge (s .entries) i pastEntry chosen-inside ∙ ap (alter charge (s .entries)) c;
+            task = omega (arith, first-pending (entryAt s (chosenOf s) .loads) zeroLoad .below, k .loads (chosenOf s) h);
+            choice = λ d. choiceBy (c d) (t d);
+          }
 
-      -- the one that is chosen has budget
-      pub chosen-budget : eqb i (chosenOf s) ≡ true → ltb 0 (entryAt s i .budget .0) ≡ true
-      chosen-budget e =
-          let c : i ≡ chosenOf s = eqb-true i (chosenOf s) e in
-          let r : readyb (serverAt s i .kind) (entryAt s i) ≡ true = rw c (chosen-first .here (omega (arith, z .servers))) in
-          both-right (wantsb (serverAt s i .kind) (entryAt s i)) _ r
+    -- none is
+    pub charge-none : {j : ℕ} {es : List Entry} → entries ≤ i → j ≤ entries → es ≡ s .entries → Charged s i j es
+    unfolding choiceOf
+    charge-none l m e = record {
+      charged = e ∙ sym (alter-past charge (s .entries) (chosenOf s) (omega (arith, k .eight .entries)));
+      task = m;
+      choice = rw (le-ltb i entries l, le-ltb (chosenOf s) entries (omega arith));
+    }
 
-      -- at most 8 arrivals are due
-      pub turn-few : turnAt s i .handled ≤ entries
-      turn-few = served-few (serverAt s i) _ server-tabled (before-sound (serverAt s i) (entryAt s i) entry-sound (eqb i (chosenOf s)) (getD (flags s) i false))
+  -- STEP 4
+
+  -- there are eight entries after the charge
+  pub charged-full : {i j : ℕ} {es : List Entry} → Charged s i j es → length es ≡ entries
+  charged-full c = ap length (c .charged) ∙ length-alter charge (s .entries) (chosenOf s) ∙ k .eight .entries
+
+  -- the replenishments' first gap falls
+  pub refills-fall : fallsStep (s .refills) ≡ true → nearerStep (s .refills) ≡ tickStep (s .refills)
+  refills-fall f = sym (falls-tick maxGap longest (s .refills) (held _ (s .refills) .0 (state-parts s .0 (k .sound) .refills) .sound) f .0)
+
+  -- after the replenishments
+  module _ {es₀ : List Entry} {q : Queue} {n₀ : ℕ} (r : Refilled s es₀ q n₀) where
+    pub refilled-fitting : Fitting (s .table) es₀
+    refilled-fitting =
+        let b : State = record { entries = es₀; table = s .table; refills = s .refills } in
+        let l : length es₀ ≡ entries = ap length (r .budgets) ∙ before-length s ∙ k .eight .entries in
+        let p = state-parts s .0 (k .sound) in
+        let h = state-parts b .1 record { table = p .table; entries = rw (r .budgets) (before-sound s (k .sound)); refills = p .refills } in
+        let a = stated b record { servers = k .eight .servers; entries = l } .0 h in
+        record { servers = k .eight .servers; full = l; tabled = λ i m. tabled _ .1 (every-server (s .table) (a .servers) i m); sound = a .entry }
+
+    -- where all entries have been served the tick is done
+    module _ {es : List Entry} {n i : ℕ} (v : Serving (s .table) es₀ n₀ es n i) (m : entries ≤ i) where
+      last : i ≡ entries
+      last = omega (arith, v .place)
+
+      pub tick-state : record { entries = es; table = s .table; refills = q } ≡ stateAfter s
+      unfolding stateAfter servedTurn
+      tick-state =
+          let f = v .fitting in
+          let ss = s .table .servers in
+          let l : length (eachEntry served4 ss es₀) ≡ entries = served-length ss es₀ ∙ f .full in
+          let all =
+          firsts-all (λ j. turnAt (s .table) es₀ j .entry) es₀ (eachEntry served4 ss es₀) zeroEntry entries (omega (arith, f .full)) l
+          (λ j h. each-at served4 ss es₀ j (omega (arith, f .servers)) (omega (arith, f .full))) in
+          let end = ap (λ (j : ℕ). firsts (λ h. turnAt (s .table) es₀ h .entry) j ++ drop j es₀) last in
+          let e = v .served ∙ end ∙ all ∙ ap (eachEntry served4 ss) (r .budgets) in
+          λ d. record { entries = e d; table = s .table; refills = r .queue d }
+
+      pub tick-count : n ≡ handledOf s
+      unfolding handledOf charge
+      tick-count =
+          let f = v .fitting in
+          let t : take entries es₀ ≡ es₀ = take-all entries es₀ (omega (arith, f .full)) in
+          let a : sumTo (λ j. turnAt (s .table) es₀ j .handled) i ≡ dueEvents es₀ = rw (last, ← due-sum (s .table) es₀ entries (omega (arith, f .full)), t) in
+          let b : dueEvents es₀ ≡ dueEvents (s .entries) = rw (r .budgets, due-refilled) (due-altered charge (λ x. refl) (s .entries) (chosenOf s)) in
+          omega (arith, v .handled, r .handled)

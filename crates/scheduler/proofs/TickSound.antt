@@ -29,7 +29,7 @@ use Rattle.scheduler.specs.State.{mostPending, mostLost, load, serverAt,
 use Rattle.scheduler.specs.Sound.{releaseReach, taskReaches, serverReaches, loadb, zeroLoadb, entryb, entriesb, stateb}
 use Rattle.scheduler.specs.Choice.{firstPending, chosenOf, choiceOf}
 use Rattle.scheduler.specs.Arrive.{fitsb, lostAfter, loadAfter, withArrival, withLoads, arrivedState, arriveOf}
-use Rattle.scheduler.specs.Tick.{lessWork, charge, dueIn, roomb, withBudget, refilled, periodAt, refillsTurn, arrivedLoads, arrivalsTurn, served4, eachEntry, allRoomb, chargedEntries, stateAfter, handledOf, againb, tickedWith, tickOf}
+use Rattle.scheduler.specs.Tick.{lessWork, charge, dueIn, roomb, withBudget, refilled, periodAt, fullAt, refillsTurn, arrivedLoads, arrivalsTurn, served4, eachEntry, allRoomb, chargedEntries, stateAfter, handledOf, againb, tickedWith, tickOf}
 use Rattle.scheduler.specs.Run.{stateAfterTicks, ticksIn, runOf}
 use Rattle.scheduler.specs.declared.Load.{Load}
 use Rattle.scheduler.specs.declared.Entry.{Entry}
@@ -273,16 +273,21 @@ module _ (s : State) (h : stateb s ≡ true) where
       (eq-eqb _ 0 (held-accepted (periodAt s) (serverReaches (s .table .servers)) (s .refills) refills-each (server-delayed (s .table) (state .table))))
       (entries-room (s .table .servers) (s .entries) (table-every (s .table) (state .table)) (state .entries))
 
+  -- the entries before step 4 are sound
+  pub before-sound : entriesb (s .table .servers) (refilled (fullAt s) (dueIn (s .refills)) (chargedEntries s)) ≡ true
+  before-sound =
+      let ss = s .table .servers in
+      let a = entries-one charge ss (s .entries) (chosenOf s) (charge-sound (serverAt s (chosenOf s))) (state .entries) in
+      entries-refilled ss (dueIn (s .refills)) (chargedEntries s) a
+
   -- A SOUND STATE STAYS SOUND under a tick
   pub tick-sound : stateb (stateAfter s) ≡ true
   unfolding stateAfter
   tick-sound =
       let ss = s .table .servers in
-      let a = entries-one charge ss (s .entries) (chosenOf s) (charge-sound (serverAt s (chosenOf s))) (state .entries) in
-      let b = entries-refilled ss (dueIn (s .refills)) (chargedEntries s) a in
       state-parts (stateAfter s) .1 record {
         table = state .table;
-        entries = entries-served ss _ (table-every (s .table) (state .table)) b;
+        entries = entries-served ss _ (table-every (s .table) (state .table)) before-sound;
         refills = held-each (serverReaches ss) (refillsTurn s .queue) .1 (held-again (periodAt s) (serverReaches ss) (s .refills) refills-each (server-delayed (s .table) (state .table)));
       }
 

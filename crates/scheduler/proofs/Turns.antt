@@ -15,7 +15,7 @@ use Rattle.queue.specs.Row.{Event, event, eventsOf}
 use Rattle.queue.specs.Sound.{soundb}
 use Rattle.queue.specs.Holds.{holdsb}
 use Rattle.queue.specs.Calls.{acceptedWith, withEvent, earlier, dueb, clockOf, takeOf, insertOf}
-use Rattle.queue.specs.Steps.{firstCell, dueStep, restStep, tickStep, placeStep}
+use Rattle.queue.specs.Steps.{firstCell, dueStep, restStep, tickStep, placeStep, againStep}
 use Rattle.queue.specs.declared.Queue.{Queue}
 use Rattle.queue.specs.declared.Changed.{Changed}
 use Rattle.queue.proofs.Events.{with-length}
@@ -118,6 +118,7 @@ pub record Turned (delay : ℕ → ℕ) (q : Queue) : Type 0 where
   pub turning : Turning delay (requeued delay q)
 
 pub turned : (delay : ℕ → ℕ) (q : Queue) → Turning delay q → dueStep q ≡ true → Turned delay q
+unfolding againStep
 turned delay q t d =
     let r = takeOf maxGap longest q in
     let taken = take-step maxGap longest q (omega arith) (t .sound) d in
@@ -136,8 +137,8 @@ turned delay q t d =
     let q′ : requeued delay q ≡ c .queue = (λ j. placeStep maxGap (l j) (i j) (delay (i j)) .queue) ∙ sym (ap (λ (y : Changed). y .queue) p) in
     record {
       small = rw i (each .0 .0);
-      first = rw (i, q′, m, ids-with x (eventsOf (r .queue)) (ne-eqb (x .at) 0 (λ z. omega (arith, each .0 .1 .0))), e);
-      again = rw (i, q′) (accepted-is c n (insert-place maxGap longest (r .queue) (r .id) (delay (r .id))));
+      first = rw (q′, i, m, ids-with x (eventsOf (r .queue)) (ne-eqb (x .at) 0 (λ z. omega (arith, each .0 .1 .0))), e);
+      again = rw (q′, i) (accepted-is c n (insert-place maxGap longest (r .queue) (r .id) (delay (r .id))));
       turning = rw q′ record {
         sound = insert-sound maxGap longest (r .queue) (r .id) (delay (r .id)) s;
         few = rw (m, with-length x (eventsOf (r .queue))) (omega (arith, t .few, ap length e));
@@ -167,7 +168,7 @@ module _ (reach : List ℕ) (q : Queue) (h : holdsb maxGap longest reach q ≡ t
   clock-accepts : clockOf maxGap longest q ≡ acceptedWith (tickStep q)
   clock-accepts = clock-step maxGap longest q (omega arith) (holding .sound) (due-free q (holding .sound) (held-rests reach q holding))
 
-  pub clocked-is : clocked q ≡ tickStep q
+  clocked-is : clocked q ≡ tickStep q
   clocked-is = ap (λ (c : Changed). c .queue) clock-accepts
 
   pub due-in : dueIn q ≡ dueIds (eventsOf (tickStep q))

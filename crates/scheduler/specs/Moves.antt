@@ -1,16 +1,16 @@
 -- What the private functions give. No promise is stated by these: they stand between the code's loops and the definitions.
 use mathlib.Core.Path.{_≡_}
-use mathlib.Core.Bool.{Bool, true, false}
+use mathlib.Core.Bool.{Bool, true}
 use mathlib.Core.List.{List, [], _∷_}
-use Prim.Native.Nat.{ℕ, _+_, _≤_, _<_}
+use Prim.Native.Nat.{ℕ, _≤_, _<_}
 use lib.Dec.{leb}
-use lib.ListN.{length, getD, replicate}
-use Rattle.refusal.specs.Small.{pick, both, alter}
+use lib.ListN.{length, getD}
+use Rattle.refusal.specs.Small.{both}
 use Rattle.queue.specs.Limits.{maxGap, longest}
 use Rattle.queue.specs.Row.{Event, eventsOf}
 use Rattle.queue.specs.Sound.{soundb}
 use Rattle.queue.specs.Calls.{acceptedWith}
-use Rattle.queue.specs.Steps.{firstCell, dueStep, restStep, placeStep}
+use Rattle.queue.specs.Steps.{firstCell, dueStep, againStep}
 use Rattle.queue.specs.declared.Queue.{Queue}
 use Rattle.table.specs.Limits.{mostWork, entries}
 use Rattle.table.specs.Table.{zeroServer, periodOf}
@@ -19,15 +19,14 @@ use Rattle.table.specs.declared.Server.{Server}
 use Rattle.table.specs.declared.Table.{Table}
 use Rattle.scheduler.specs.State.{mostPending, taskAt}
 use Rattle.scheduler.specs.Arrive.{withArrival}
-use Rattle.scheduler.specs.Tick.{charge, withBudget, dueIds, dueIn, again, arrivedLoads, served4, turnOf}
+use Rattle.scheduler.specs.Tick.{dueIds, dueIn, again, arrivedLoads, served4}
 use Rattle.scheduler.specs.declared.Load.{Load}
 use Rattle.scheduler.specs.declared.Entry.{Entry}
 use Rattle.scheduler.specs.declared.EntryTurn.{EntryTurn}
-use Rattle.scheduler.specs.declared.RefillsTurn.{RefillsTurn}
 
 -- the first event of a queue, which is due, put in again its delay away
 abbrev pub requeued : (ℕ → ℕ) → Queue → Queue
-requeued delay q = placeStep maxGap (restStep q) (firstCell q .id) (delay (firstCell q .id)) .queue
+requeued delay q = againStep maxGap q (delay (firstCell q .id))
 
 -- every event of a list is one of these ids
 abbrev pub allOf : (ℕ → Type 0) → List Event → Type 0
@@ -88,36 +87,5 @@ withQueue q e = record { loads = e .loads; arrivals = q; budget = e .budget }
 unfoldable pub servedTurn : Server → Entry → EntryTurn
 servedTurn s e = record { entry = served4 s e; handled = length (dueIn (e .arrivals)) }
 
--- the entry after the charge where it is chosen and the refill where that is due
-abbrev pub before4 : ℕ → Bool → Bool → Entry → Entry
-before4 full chosen due e = pick due (withBudget full (pick chosen (charge e) e)) (pick chosen (charge e) e)
-
--- flags of the ids in a list
-abbrev pub flagged : List ℕ → List Bool → List Bool
-flagged [] bs = bs
-flagged (id ∷ ids) bs = flagged ids (alter (λ (b : Bool). true) bs id)
-
--- step 4 for the replenishments: the queue, whose budgets are set, and how many were due
-unfoldable pub refillsTurnOf : (ℕ → ℕ) → Queue → RefillsTurn
-refillsTurnOf period q = record {
-  full = flagged (dueIn q) (replicate entries false);
-  queue = turnOf period q .queue;
-  handled = length (dueIn q);
-}
-
 abbrev pub periodIn : Table → ℕ → ℕ
 periodIn t i = getD (t .servers) i zeroServer .period .0
-
--- a turn of the replenishments that has an event due
-pub record Refilling (t : Table) (r : RefillsTurn) : Type 0 where
-  pub table : tableb longest mostWork t ≡ true
-  pub turning : Turning (periodIn t) (r .queue)
-  pub due : dueStep (r .queue) ≡ true
-  pub few : r .handled < 8
-
-unfoldable pub oneRefill : Table → RefillsTurn → RefillsTurn
-oneRefill t r = record {
-  full = alter (λ (b : Bool). true) (r .full) (firstCell (r .queue) .id);
-  queue = requeued (periodIn t) (r .queue);
-  handled = r .handled + 1;
-}

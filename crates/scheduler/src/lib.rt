@@ -1,6 +1,5 @@
 // The scheduler of servers and their tasks: document 01, "Servers and tasks".
 use queue::Distance;
-use queue::Pace;
 use queue::Queue;
 use refusal::Refusal;
 use table::Release;
@@ -13,21 +12,22 @@ ghost use mathlib.Core.Bool.{true};
 ghost use Prim.Native.Nat.{_≤_};
 ghost use lib.Dec.{leb, ltb, eqb};
 ghost use Rattle.refusal.specs.Small.{pick};
-ghost use Rattle.refusal.specs.Refusal.{refused};
+ghost use Rattle.refusal.specs.Refusal.{none, refused};
 ghost use Rattle.queue.specs.Limits.{maxGap, longest};
 ghost use Rattle.queue.specs.Holds.{holdsb};
 ghost use Rattle.queue.specs.Calls.{insertOf};
+ghost use Rattle.queue.specs.Steps.{fallsStep, nearerStep};
 ghost use Rattle.table.specs.Limits.{mostWork, entries};
 ghost use Rattle.table.specs.Table.{releaseNumber, periodOf};
 ghost use Rattle.table.specs.Sound.{usedb, tableb};
-ghost use Rattle.scheduler.specs.State.{mostPending, zeroLoad, zeroEntry, entryAt};
+ghost use Rattle.scheduler.specs.State.{mostPending, zeroLoad, zeroEntry};
 ghost use Rattle.scheduler.specs.Sound.{releaseReach, taskReaches, serverReaches, loadb, zeroLoadb, entryb, stateb};
-ghost use Rattle.scheduler.specs.Choice.{pendingb, firstPending, wantsb, readyb, chosenOf, choiceBy};
+ghost use Rattle.scheduler.specs.Choice.{pendingb, firstPending, wantsb, readyb, chosenFrom, choiceBy};
 ghost use Rattle.scheduler.specs.Arrive.{fitsb, loadAfter, arrivalBy, arrivedWith, arriveOf};
 ghost use Rattle.scheduler.specs.Tick.{charge, withBudget, tickOf};
-ghost use Rattle.scheduler.specs.Run.{runOf};
+ghost use Rattle.scheduler.specs.Run.{batchSize, answersOf, stateAfterTicks, batchWith, runOf};
 ghost use Rattle.scheduler.specs.Fresh.{firstAway, firstWork, freshLoad, serverAway, freshQueue, freshEntry, emptyState, freshOf};
-ghost use Rattle.scheduler.specs.Moves.{tabledb, Arriving, oneArrival, Clocked, dueTurn, servedTurn, withQueue, before4, Refilling, oneRefill, periodIn, refillsTurnOf};
+ghost use Rattle.scheduler.specs.Moves.{tabledb, Clocked, dueTurn, servedTurn, withQueue};
 ghost use Rattle.scheduler.specs.declared.Arrival.the-variants.{Accepted};
 
 // A task's pending work and its lost count.
@@ -131,7 +131,7 @@ pub fn fresh(t: Table) -> Made
     }
 }
 
-// One tick: the choice, the charge, and all queues clocked.
+// One tick: the choice, the charge, and all queues clocked. It is the run of one.
 pub fn tick(s: State) -> Ticked
     ensures { λ r. ⌜ r ≡ tickOf s ⌝ }
 {
@@ -143,43 +143,35 @@ pub fn tick(s: State) -> Ticked
             handled: 0,
         };
     }
-    turn(s)
+    let b = ticks(s, 1);
+    let next = b.state;
+    let a = b.answers[0];
+    let c = a.choice;
+    Ticked {
+        state: next,
+        refusal: Refusal::none(),
+        choice: c,
+        handled: a.handled,
+    }
 }
 
 // A number of ticks in a row, at most 64, with one check of the state.
 pub fn run(s: State, k: usize) -> Batch
     ensures { λ r. ⌜ r ≡ runOf s k ⌝ }
 {
-    let zero = Answer {
-        choice: Choice::Idle,
-        handled: 0,
-    };
-    let mut b = Batch {
-        answers: [zero; State::BATCH],
-        state: s,
-        refusal: Refusal::none(),
-        count: 0,
-    };
     if !sound(s) {
-        let r = Refusal::numbered(Refusal::UNSOUND);
-        b.refusal = r;
-        return b;
-    }
-    let n = least(k, State::BATCH);
-    let mut i: usize = 0;
-    while i < n {
-        let t = turn(b.state);
-        let c = t.choice;
-        b.answers[i] = Answer {
-            choice: c,
-            handled: t.handled,
+        let zero = Answer {
+            choice: Choice::Idle,
+            handled: 0,
         };
-        let next = t.state;
-        b.state = next;
-        i = i + 1;
+        return Batch {
+            answers: [zero; State::BATCH],
+            state: s,
+            refusal: Refusal::numbered(Refusal::UNSOUND),
+            count: 0,
+        };
     }
-    b.count = n;
-    b
+    ticks(s, least(k, State::BATCH))
 }
 
 // An arrival at a server's task, which takes effect for the next tick.
@@ -284,14 +276,13 @@ fn ready(kind: u8, e: Entry) -> bool
 }
 
 // The highest server that is ready, or 8.
-fn chosen(s: State) -> usize
-    ensures { λ r. ⌜ r ≡ chosenOf s ⌝ }
+fn chosen(table: Table, entries: [Entry; Table::ENTRIES]) -> usize
+    ensures { λ r. ⌜ r ≡ chosenFrom (table .servers) entries ⌝ }
 {
-    let table = s.table;
     let mut i: usize = 0;
     while i < Table::ENTRIES {
         let e = table.servers[i];
-        if ready(e.kind, s.entries[i]) {
+        if ready(e.kind, entries[i]) {
             return i;
         }
         i = i + 1;
@@ -299,31 +290,29 @@ fn chosen(s: State) -> usize
     i
 }
 
-// What the tick answers where server i is chosen.
-fn choice_in(s: State, i: usize) -> Choice
-    requires { ⌜ i ≤ entries ⌝ }
-    ensures { λ r. ⌜ r ≡ choiceBy i (firstPending (entryAt s i .loads)) ⌝ }
+// What the tick answers where server i is chosen, and in it task j.
+fn choice_of(i: usize, j: usize) -> Choice
+    requires { ⌜ (i ≤ entries) × (j ≤ entries) ⌝ }
+    ensures { λ r. ⌜ r ≡ choiceBy i j ⌝ }
 {
     if Table::ENTRIES <= i {
         return Choice::Idle;
     }
-    let j = first_pending(s.entries[i]);
     if Table::ENTRIES <= j {
         return Choice::Burning(i as u8);
     }
     Choice::Running(i as u8, j as u8)
 }
 
-// The budget and the first pending task's work fall by 1.
-fn charged(e: Entry) -> Entry
-    requires { ⌜ ltb 0 (e .budget .0) ≡ true ⌝ }
+// The budget and the first pending task's work fall by 1: j is that task's place, or 8.
+fn charged(e: Entry, j: usize) -> Entry
+    requires { ⌜ (ltb 0 (e .budget .0) ≡ true) × (j ≡ firstPending (e .loads)) ⌝ }
     ensures { λ r. ⌜ r ≡ charge e ⌝ }
 {
     let b = e.budget;
     let mut next = e;
     let less = Served(b.0 - 1);
     next.budget = less;
-    let j = first_pending(e);
     if Table::ENTRIES <= j {
         return next;
     }
@@ -363,27 +352,7 @@ struct EntryTurn {
     handled: u32,
 }
 
-// The first event of the server's queue, which is due: its task's work arrives, and it is put in again a period away.
-fn one_arrival(s: Server, e: Entry) -> Entry
-    requires { ⌜ Arriving s e ⌝ }
-    ensures { λ r. ⌜ r ≡ oneArrival s e ⌝ }
-{
-    let id = queue::first_id(e.arrivals);
-    let j = id as usize;
-    let t = s.tasks[j];
-    let work = t.work;
-    let mut next = e;
-    let l = load_after(e.loads[j], work.0);
-    next.loads[j] = l;
-    let rest = queue::without_first(e.arrivals);
-    let r = t.release;
-    let p = queue::placed(rest, id, Distance(period_of(r)));
-    let q = p.queue;
-    next.arrivals = q;
-    next
-}
-
-// All arrivals that are due.
+// All arrivals that are due: each one's work arrives at its task, and it is put in again a period away.
 fn all_due(s: Server, e: Entry) -> EntryTurn
     requires { ⌜ Clocked s e ⌝ }
     ensures { λ r. ⌜ r ≡ dueTurn s e ⌝ }
@@ -391,7 +360,15 @@ fn all_due(s: Server, e: Entry) -> EntryTurn
     let mut next = e;
     let mut handled: u32 = 0;
     while queue::due(next.arrivals) {
-        next = one_arrival(s, next);
+        let id = queue::first_id(next.arrivals);
+        let j = id as usize;
+        let t = s.tasks[j];
+        let work = t.work;
+        let l = load_after(next.loads[j], work.0);
+        next.loads[j] = l;
+        let r = t.release;
+        let q = queue::again(next.arrivals, Distance(period_of(r)));
+        next.arrivals = q;
         handled = handled + 1;
     }
     EntryTurn {
@@ -405,133 +382,115 @@ fn served(s: Server, e: Entry) -> EntryTurn
     requires { ⌜ (tabledb s ≡ true) × (entryb s e ≡ true) ⌝ }
     ensures { λ r. ⌜ r ≡ servedTurn s e ⌝ }
 {
-    let p = queue::pace_of(e.arrivals);
-    match p {
-        Pace::Still => EntryTurn {
-            entry: e,
-            handled: 0,
-        },
-        Pace::Falls => {
-            let q = queue::nearer(e.arrivals);
-            EntryTurn {
-                entry: with_arrivals(e, q),
-                handled: 0,
-            }
-        }
-        Pace::Ends => {
-            let q = queue::ticked(e.arrivals);
-            all_due(s, with_arrivals(e, q))
-        }
-    }
+    let mut next = e;
+    let q = queue::ticked(e.arrivals);
+    next.arrivals = q;
+    all_due(s, next)
 }
 
-fn with_arrivals(e: Entry, q: Queue) -> Entry
-    ensures { λ r. ⌜ r ≡ withQueue q e ⌝ }
+// Whether the first gap of the server's queue falls and stays above 0.
+fn falls(e: Entry) -> bool
+    ensures { λ r. ⌜ r ≡ fallsStep (e .arrivals) ⌝ }
+{
+    queue::falls(e.arrivals)
+}
+
+// Whether the server has no periodic task.
+fn still(e: Entry) -> bool
+    ensures { λ r. ⌜ r ≡ eqb (e .arrivals .len) 0 ⌝ }
+{
+    let q = e.arrivals;
+    q.len == 0
+}
+
+fn nearer(e: Entry) -> Entry
+    ensures { λ r. ⌜ r ≡ withQueue (nearerStep (e .arrivals)) e ⌝ }
 {
     let mut next = e;
+    let q = queue::nearer(e.arrivals);
     next.arrivals = q;
     next
 }
 
-// The entry with its charge, where it is chosen.
-fn charged_if(e: Entry, chosen: bool) -> Entry
-    requires { ⌜ (chosen ≡ true → ltb 0 (e .budget .0) ≡ true) ⌝ }
-    ensures { λ r. ⌜ r ≡ pick chosen (charge e) e ⌝ }
+fn filled(e: Entry, budget: Served) -> Entry
+    ensures { λ r. ⌜ r ≡ withBudget (budget .0) e ⌝ }
 {
-    if chosen {
-        return charged(e);
-    }
-    e
-}
-
-// The entry with a full budget, where its replenishment is due.
-fn filled_if(e: Entry, budget: Served, due: bool) -> Entry
-    ensures { λ r. ⌜ r ≡ pick due (withBudget (budget .0) e) e ⌝ }
-{
-    if !due {
-        return e;
-    }
     let mut next = e;
     next.budget = budget;
     next
 }
 
-// A tick's part for one server: the charge, the refill after it, and step 4 for its queue.
-fn entry_turn(s: Server, e: Entry, chosen: bool, full: bool) -> EntryTurn
-    requires { ⌜ (tabledb s ≡ true) × (entryb s e ≡ true) × (chosen ≡ true → ltb 0 (e .budget .0) ≡ true) ⌝ }
-    ensures { λ r. ⌜ r ≡ servedTurn s (before4 (s .budget .0) chosen full e) ⌝ }
+// So many ticks of a state that is sound. The state's parts are locals, and a tick stores single entries: no tick copies the state.
+fn ticks(s: State, n: usize) -> Batch
+    requires { ⌜ (stateb s ≡ true) × (n ≤ batchSize) ⌝ }
+    ensures { λ r. ⌜ r ≡ batchWith none (answersOf n s) n (stateAfterTicks n s) ⌝ }
 {
-    let a = charged_if(e, chosen);
-    let b = filled_if(a, s.budget, full);
-    served(s, b)
-}
-
-// The replenishments after a tick: the queue, whose budgets are to be set, and how many were due.
-struct RefillsTurn {
-    full: [bool; Table::ENTRIES],
-    queue: Queue,
-    handled: u32,
-}
-
-fn one_refill(t: Table, r: RefillsTurn) -> RefillsTurn
-    requires { ⌜ Refilling t r ⌝ }
-    ensures { λ x. ⌜ x ≡ oneRefill t r ⌝ }
-{
-    let id = queue::first_id(r.queue);
-    let i = id as usize;
-    let s = t.servers[i];
-    let mut next = r;
-    next.full[i] = true;
-    let rest = queue::without_first(r.queue);
-    let p = queue::placed(rest, id, s.period);
-    let q = p.queue;
-    next.queue = q;
-    next.handled = r.handled + 1;
-    next
-}
-
-fn refills_turn(t: Table, q: Queue) -> RefillsTurn
-    requires { ⌜ (tableb longest mostWork t ≡ true) × (holdsb maxGap longest (serverReaches (t .servers)) q ≡ true) ⌝ }
-    ensures { λ r. ⌜ r ≡ refillsTurnOf (periodIn t) q ⌝ }
-{
-    let mut r = RefillsTurn {
-        full: [false; Table::ENTRIES],
-        queue: queue::ticked(q),
+    let zero = Answer {
+        choice: Choice::Idle,
         handled: 0,
     };
-    while queue::due(r.queue) {
-        r = one_refill(t, r);
-    }
-    r
-}
-
-// One tick of a state that is sound.
-fn turn(s: State) -> Ticked
-    requires { ⌜ stateb s ≡ true ⌝ }
-    ensures { λ r. ⌜ r ≡ tickOf s ⌝ }
-{
+    let mut answers = [zero; State::BATCH];
     let table = s.table;
-    let c = chosen(s);
-    let choice = choice_in(s, c);
-    let r = refills_turn(table, s.refills);
-    let q = r.queue;
-    let full = r.full;
-    let mut next = s;
-    next.refills = q;
-    let mut handled = r.handled;
-    let mut i: usize = 0;
-    while i < Table::ENTRIES {
-        let t = entry_turn(table.servers[i], next.entries[i], i == c, full[i]);
-        let e = t.entry;
-        next.entries[i] = e;
-        handled = handled + t.handled;
-        i = i + 1;
+    let mut entries = s.entries;
+    let mut refills = s.refills;
+    let mut k: usize = 0;
+    while k < n {
+        let c = chosen(table, entries);
+        let mut j = Table::ENTRIES;
+        if c < Table::ENTRIES {
+            j = first_pending(entries[c]);
+            let y = charged(entries[c], j);
+            entries[c] = y;
+        }
+        if queue::falls(refills) {
+            refills = queue::nearer(refills);
+        } else {
+            refills = queue::ticked(refills);
+        }
+        let mut handled: u32 = 0;
+        while queue::due(refills) {
+            let id = queue::first_id(refills);
+            let f = id as usize;
+            let v = table.servers[f];
+            let y = filled(entries[f], v.budget);
+            entries[f] = y;
+            refills = queue::again(refills, v.period);
+            handled = handled + 1;
+        }
+        let mut i: usize = 0;
+        while i < Table::ENTRIES {
+            if falls(entries[i]) {
+                let y = nearer(entries[i]);
+                entries[i] = y;
+                i = i + 1;
+                continue;
+            }
+            if still(entries[i]) {
+                i = i + 1;
+                continue;
+            }
+            let t = served(table.servers[i], entries[i]);
+            let y = t.entry;
+            entries[i] = y;
+            handled = handled + t.handled;
+            i = i + 1;
+        }
+        answers[k] = Answer {
+            choice: choice_of(c, j),
+            handled: handled,
+        };
+        k = k + 1;
     }
-    Ticked {
-        state: next,
+    let state = State {
+        entries: entries,
+        table: table,
+        refills: refills,
+    };
+    Batch {
+        answers: answers,
+        state: state,
         refusal: Refusal::none(),
-        choice: choice,
-        handled: handled,
+        count: n,
     }
 }
 

@@ -18,22 +18,19 @@ full : (c : tie.Start) → length (c .args .t1 .loads) ≡ entries
 full c = rw length-map at (c .good .0 .1 .1 .0 .1 .0 .1)
 
 -- there is a first pending task
-first : (c : tie.Else1) → let ls = c .before .before .before .before .args .t1 .loads in firstPending ls < length ls
-first c = let h = full (c .before .before .before .before) in omega (arith, c .before .first-pending .ensures)
+first : (c : tie.Else1) → let ls = c .before .before .before .args .t1 .loads in firstPending ls < length ls
+first c = let h = full (c .before .before .before) in omega (arith, c .before .before .before .pre .1)
 
 sub-t10 : tie.Need-sub-t10
 sub-t10 c = search needs
 
-first-pending-requires : tie.Need-first-pending-requires
-first-pending-requires c κs = search needs
-
 returns : tie.Need-returns
 unfolding charge
 returns c =
-    let s = c .before .before .before .before in
+    let s = c .before .before .before in
     let ls = s .args .t1 .loads in
     let h = full s in
-    rw (alter-past lessWork ls (firstPending ls) (omega (arith, c .before .first-pending .ensures)))
+    rw (alter-past lessWork ls (firstPending ls) (omega (arith, s .pre .1)))
 
 mul-l : tie.Need-mul-l
 mul-l c = search needs
@@ -44,8 +41,9 @@ element-copy-out-l c = search needs
 sub-t10-2 : tie.Need-sub-t10-2
 sub-t10-2 c =
     let d = c .before .before .before in
-    let ls = d .before .before .before .before .args .t1 .loads in
-    rw (d .before .first-pending .ensures) (ltb-true 0 (getD ls (firstPending ls) zeroLoad .pending .0) (first-pending ls zeroLoad .here (first d)))
+    let s = d .before .before .before in
+    let ls = s .args .t1 .loads in
+    rw (s .pre .1) (ltb-true 0 (getD ls (firstPending ls) zeroLoad .pending .0) (first-pending ls zeroLoad .here (first d)))
 
 mul-t12 : tie.Need-mul-t12
 mul-t12 c = search needs
@@ -57,15 +55,15 @@ returns-2 : tie.Need-returns-2
 unfolding charge
 returns-2 c =
     let d = c .before .before .before in
-    let ls = d .before .before .before .before .args .t1 .loads in
-    rw (d .before .first-pending .ensures, set-alter lessWork ls (firstPending ls) zeroLoad (first d))
+    let s = d .before .before .before in
+    let ls = s .args .t1 .loads in
+    rw (s .pre .1, set-alter lessWork ls (firstPending ls) zeroLoad (first d))
 
 pub charged-spec : {M : Type 1} → statement M
 charged-spec =
     tie.close
     (tie.spec
     sub-t10
-    first-pending-requires
     returns
     mul-l
     element-copy-out-l

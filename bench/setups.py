@@ -1,7 +1,8 @@
 #!/usr/bin/env python3
-"""Writes the setups that bench/run measures into a folder: NAME.COUNT is a setup and, in two bytes, COUNT batches of ticks.
+"""Writes the setups that are measured into a folder.
 
-    setups.py FOLDER COUNT...
+    setups.py FOLDER COUNT...           for bench/run: NAME.COUNT is a setup and, in two bytes, COUNT batches of ticks
+    setups.py --trace FOLDER TICKS...   for bench/trace: NAME.TICKS is a setup and messages that run TICKS ticks
 """
 import pathlib
 import sys
@@ -52,11 +53,22 @@ def fillers():
     return setup(servers)
 
 
+def runs(ticks):
+    """Messages that run so many ticks, each as many as a message can."""
+    counts = [65_535] * (ticks // 65_535) + [ticks % 65_535] * (ticks % 65_535 > 0)
+    return b"".join(bytes([0, 6, 1, 1]) + big(count, 2) for count in counts)
+
+
+def batches(count):
+    return big(count, 2)
+
+
 def main():
-    folder = pathlib.Path(sys.argv[1])
+    tail, words = (runs, sys.argv[2:]) if sys.argv[1] == "--trace" else (batches, sys.argv[1:])
+    folder = pathlib.Path(words[0])
     for make in (worked, realistic, fillers):
-        for count in sys.argv[2:]:
-            (folder / f"{make.__name__}.{count}").write_bytes(make() + big(int(count), 2))
+        for count in words[1:]:
+            (folder / f"{make.__name__}.{count}").write_bytes(make() + tail(int(count)))
 
 
 main()

@@ -1,0 +1,140 @@
+-- THE TICKS BATCH BY BATCH ARE THE TICKS ONE BY ONE: what the program writes for the ticks that are left, and the run behind them. Assumes nothing.
+use mathlib.Core.Path.{_≡_, refl, sym, ap, subst, _∙_}
+use mathlib.Core.Bool.{Bool, true, false}
+use mathlib.Core.List.{List, [], _∷_, _++_, append-assoc, append-nil}
+use Prim.Native.Nat.{ℕ, zero, suc, _+_, _-_, _≤_}
+use native.Mathlib.Omega.{arith}
+use native.Mathlib.Nat.{zero-add, add-zero, suc-add}
+use lib.Dec.{leb, eqb}
+use lib.ListN.{length, replicate}
+use borrow.Author.Tests.{eqb-true, eqb-false, ne-eqb, le-ltb}
+use Rattle.refusal.specs.Small.{pick, padded}
+use Rattle.scheduler.specs.Sound.{stateb}
+use Rattle.scheduler.specs.Tick.{tickOf}
+use Rattle.scheduler.specs.Run.{batchSize, answer, answersOf, stateAfterTicks, ticksIn}
+use Rattle.scheduler.specs.declared.Choice.the-variants.{Idle}
+use Rattle.scheduler.specs.declared.Answer.{Answer}
+use Rattle.scheduler.specs.declared.State.{State}
+use Rattle.scheduler.proofs.Refusals.{run-accepted}
+use Rattle.scheduler.proofs.Unchanged.{run-done}
+use Rattle.scheduler.proofs.TickSound.{ticks-sound}
+use Rattle.lines.specs.Lines.{tickLine, answerLines}
+use Rattle.desk.specs.Desk.{tickLimit, deskWith, leftAfter, ranOf}
+use Rattle.desk.specs.Trace.{leftLines, behindLeft, batchesText, behindBatches}
+use Rattle.desk.specs.declared.Desk.{Desk}
+use Rattle.desk.proofs.Counts.{ticks-most}
+
+-- TICKS IN A ROW
+
+answers-length : (k : ℕ) (s : State) → length (answersOf k s) ≡ k
+answers-length zero s = refl
+answers-length (suc k) s = ap suc (answers-length k (tickOf s .state))
+
+-- n ticks behind m
+pub answers-join : (m n : ℕ) (s : State) → answersOf (m + n) s ≡ answersOf m s ++ answersOf n (stateAfterTicks m s)
+answers-join zero n s = ap (λ (k : ℕ). answersOf k s) (zero-add n)
+answers-join (suc m) n s =
+    rw (suc-add m n) (ap {B = List Answer} (λ l. answer (tickOf s .choice) (tickOf s .handled) ∷ l) (answers-join m n (tickOf s .state)))
+
+pub states-join : (m n : ℕ) (s : State) → stateAfterTicks (m + n) s ≡ stateAfterTicks n (stateAfterTicks m s)
+states-join zero n s = ap (λ (k : ℕ). stateAfterTicks k s) (zero-add n)
+states-join (suc m) n s = rw (suc-add m n) (states-join m n (tickOf s .state))
+
+-- THEIR LINES
+
+-- those of some answers, then those of others, whose ticks are numbered on
+pub lines-join : (k n : ℕ) (xs ys : List Answer)
+    → answerLines k (length xs + n) (xs ++ ys) ≡ answerLines k (length xs) xs ++ answerLines (k + length xs) n ys
+lines-join k n [] ys = rw (zero-add n, add-zero k)
+lines-join k n (x ∷ xs) ys =
+    let e : suc k + length xs ≡ k + suc (length xs) = omega arith in
+    let t = tickLine k (x .choice) in
+    rw (suc-add (length xs) n, ← e) (ap (λ (l : List ℕ). t ++ l) (lines-join (suc k) n xs ys) ∙ sym (append-assoc t _ _))
+
+-- what stands behind the answers in a batch's row adds no line
+lines-first : (k n : ℕ) (xs ys : List Answer) → length xs ≡ n → answerLines k n (xs ++ ys) ≡ answerLines k n xs
+lines-first k n xs ys e =
+    subst (λ (m : ℕ). answerLines k m (xs ++ ys) ≡ answerLines k m xs) e
+    (rw (add-zero (length xs), append-nil (answerLines k (length xs) xs)) at (lines-join k 0 xs ys))
+
+-- ONE BATCH
+
+-- where ticks are left, a batch has one
+ticks-some : (k : ℕ) → 1 ≤ k → 1 ≤ ticksIn k
+ticks-some k h = go (leb k batchSize)
+  where
+    go : (b : Bool) → 1 ≤ pick b k batchSize
+    go true = h
+    go false = omega arith
+
+-- so behind it as many are left as it did not run
+left-behind : (k : ℕ) → leftAfter k (ticksIn k) ≡ k - ticksIn k
+left-behind zero = refl
+left-behind (suc k) = rw (ne-eqb (ticksIn (suc k)) 0 (λ z. omega (arith, ticks-some (suc k) (omega arith))))
+
+-- how many ticks it has, the row of its answers, and the run behind it
+abbrev pub size : Desk → ℕ
+size d = ticksIn (d .left)
+
+abbrev pub row : Desk → List Answer
+row d = padded (answer Idle 0) batchSize (answersOf (size d) (d .state))
+
+abbrev pub next : Desk → Desk
+next d = deskWith (stateAfterTicks (size d) (d .state)) (d .ran + size d) (d .left - size d)
+
+-- a batch of a sound run: the answers of single ticks, and the run behind them
+pub batch-is : (d : Desk) → stateb (d .state) ≡ true → d .ran + d .left ≤ tickLimit
+    → ranOf d ≡ record { answers = row d; desk = next d; first = d .ran; count = size d }
+unfolding ranOf
+batch-is d h l =
+    rw (le-ltb tickLimit (d .ran + d .left) l, run-done (d .state) (d .left) (run-accepted (d .state) (d .left) .1 h), left-behind (d .left))
+
+module _ (d : Desk) where
+  all : size d + (d .left - size d) ≡ d .left
+  all = omega (arith, ticks-most (d .left))
+
+  -- its lines and those of what is left are the lines of all
+  batch-text : answerLines (d .ran) (size d) (row d) ++ leftLines (next d) ≡ leftLines d
+  batch-text =
+      let s = d .state in
+      let m = d .left - size d in
+      let xs = answersOf (size d) s in
+      let n = answers-length (size d) s in
+      let first = lines-first (d .ran) (size d) xs (replicate (batchSize - length xs) (answer Idle 0)) n in
+      let joined = rw (n, ← answers-join (size d) m s, all) at (lines-join (d .ran) m xs (answersOf m (stateAfterTicks (size d) s))) in
+      ap (λ (l : List ℕ). l ++ leftLines (next d)) first ∙ sym joined
+
+  -- and the run behind both is the run behind all
+  batch-behind : behindLeft (next d) ≡ behindLeft d
+  batch-behind =
+      let e = sym (states-join (size d) (d .left - size d) (d .state)) ∙ ap (λ (k : ℕ). stateAfterTicks k (d .state)) all in
+      let f : d .ran + size d + (d .left - size d) ≡ d .ran + d .left = omega (arith, all) in
+      λ i. deskWith (e i) (f i) 0
+
+-- ALL OF THEM
+
+-- where none is left nothing is written and the run stays
+none-left : (d : Desk) → d .left ≡ 0 → ([] ≡ leftLines d) × (d ≡ behindLeft d)
+none-left d e =
+    let n : d .ran ≡ d .ran + d .left = omega arith in
+    (rw e, λ i. deskWith (stateAfterTicks (sym e i) (d .state)) (n i) (e i))
+
+abbrev BatchesAre : ℕ → Desk → Type 0
+BatchesAre f d = (batchesText f d ≡ leftLines d) × (behindBatches f d ≡ behindLeft d)
+
+-- what the program writes for the ticks that are left is their lines, and the run it comes to is the run behind them
+pub batches : (f : ℕ) (d : Desk) → stateb (d .state) ≡ true → d .ran + d .left ≤ tickLimit → d .left ≤ f
+    → (batchesText f d ≡ leftLines d) × (behindBatches f d ≡ behindLeft d)
+batches zero d h l m = none-left d (omega arith)
+batches (suc f) d h l m =
+    go (eqb (d .left) 0) refl (batches f (next d) (ticks-sound (size d) (d .state) h) (omega (arith, ticks-most (d .left))))
+  where
+    go : (b : Bool) → eqb (d .left) 0 ≡ b → (next d .left ≤ f → BatchesAre f (next d)) → let r = ranOf d in
+        (pick b [] (answerLines (r .first) (r .count) (r .answers) ++ batchesText f (r .desk)) ≡ leftLines d)
+        × (pick b d (behindBatches f (r .desk)) ≡ behindLeft d)
+    go true e again = none-left d (eqb-true (d .left) 0 e)
+    go false e again =
+        let some : 1 ≤ d .left = omega (arith, eqb-false (d .left) 0 e) in
+        let (text, behind) = again (omega (arith, ticks-some (d .left) some)) in
+        let lines = answerLines (d .ran) (size d) (row d) in
+        rw (batch-is d h l) (ap (λ (t : List ℕ). lines ++ t) text ∙ batch-text d, behind ∙ batch-behind d)

@@ -1,0 +1,97 @@
+-- WHAT HOLDS OF EVERY RUN from an accepted setup on, message by message and batch by batch, so that the laws of sound states apply to it. Assumes nothing.
+use mathlib.Core.Path.{_≡_, refl}
+use mathlib.Core.Bool.{Bool, true, false}
+use mathlib.Core.List.{List}
+use Prim.Native.Nat.{ℕ, _+_, _-_, _≤_, _<_}
+use native.Mathlib.Omega.{arith}
+use lib.Dec.{ltb, eqb}
+use borrow.Author.Tests.{eqb-false, ltb-false}
+use Rattle.refusal.specs.Small.{pick}
+use Rattle.refusal.specs.Numbers.{ticksPassed}
+use Rattle.queue.specs.Limits.{longest}
+use Rattle.table.specs.Limits.{mostWork}
+use Rattle.setup.specs.Read.{readOf as setupOf}
+use Rattle.setup.proofs.RoundTrip.{accepted-sound}
+use Rattle.message.specs.Message.{readOf}
+use Rattle.message.specs.declared.Message.{Message}
+use Rattle.message.specs.declared.Message.the-variants.{Run, Arrival}
+use Rattle.scheduler.specs.Sound.{stateb}
+use Rattle.scheduler.specs.Run.{ticksIn, runOf}
+use Rattle.scheduler.proofs.TickSound.{arrive-sound, ticks-sound}
+use Rattle.scheduler.proofs.FreshSound.{fresh-sound, fresh-made}
+use Rattle.lines.specs.declared.Line.the-variants.{Nothing, Refused}
+use Rattle.desk.specs.Desk.{tickLimit, deskWith, met, dueTicks, openOf, askedOf, arrivedOf, doneOf, messageOf, ranOf}
+use Rattle.desk.specs.Trace.{behindLeft}
+use Rattle.desk.specs.Meaning.{Kept}
+use Rattle.desk.specs.declared.Desk.{Desk}
+use Rattle.desk.proofs.Counts.{ticks-most, due-left}
+use Rattle.desk.proofs.Batches.{batch-is}
+
+-- THE SETUP
+
+pub opened-sound : (bs : List ℕ) → openOf bs .refusal .number ≡ 0 → stateb (openOf bs .desk .state) ≡ true
+unfolding openOf
+opened-sound bs a =
+    let t = setupOf longest mostWork bs .table in
+    let h = accepted-sound longest mostWork bs a .0 in
+    rw (fresh-made t h) (fresh-sound t h)
+
+-- no tick is run, and none left
+pub opened-kept : (bs : List ℕ) → openOf bs .refusal .number ≡ 0 → Kept (openOf bs .desk)
+unfolding openOf
+opened-kept bs a = record { sound = opened-sound bs a; within = omega arith }
+
+-- A MESSAGE, accepted or refused
+
+module _ (d : Desk) (k : ℕ) (w : Kept d) where
+  asked-kept : (n : ℕ) → Kept (askedOf d n k .desk)
+  unfolding askedOf
+  asked-kept n = go (ltb tickLimit (d .ran + n)) refl
+    where
+      go : (b : Bool) → ltb tickLimit (d .ran + n) ≡ b
+          → Kept (pick b (met d (Refused ticksPassed k) true) (met (deskWith (d .state) (d .ran) n) Nothing false) .desk)
+      go true e = w
+      go false e = record { sound = w .sound; within = ltb-false tickLimit (d .ran + n) e }
+
+  arrived-kept : (i j : ℕ) → Kept (arrivedOf d i j k .desk)
+  unfolding arrivedOf
+  arrived-kept i j = record { sound = arrive-sound (d .state) (w .sound) i j; within = w .within }
+
+  done-kept : (m : Message) → Kept (doneOf d k m .desk)
+  done-kept (Run n) = asked-kept n
+  done-kept (Arrival i j) = arrived-kept i j
+
+  pub message-kept : (bs : List ℕ) → Kept (messageOf d k bs .desk)
+  unfolding messageOf
+  message-kept bs = go (eqb (readOf bs .refusal .number) 0)
+    where
+      go : (b : Bool) → Kept (pick b (doneOf d k (readOf bs .message)) (met d (Refused (readOf bs .refusal .number) k) true) .desk)
+      go true = done-kept (readOf bs .message)
+      go false = w
+
+-- ITS TICKS
+
+module _ (d : Desk) (w : Kept d) where
+  -- a batch of them
+  pub batch-kept : Kept (ranOf d .desk)
+  batch-kept =
+      rw (batch-is d (w .sound) (w .within))
+      record { sound = ticks-sound (ticksIn (d .left)) (d .state) (w .sound); within = omega (arith, w .within, ticks-most (d .left)) }
+
+  -- and all of them
+  pub ticks-kept : Kept (behindLeft d)
+  ticks-kept = record { sound = ticks-sound (d .left) (d .state) (w .sound); within = omega (arith, w .within) }
+
+-- BATCHES END: of any run, kept or not, each leaves fewer ticks
+pub left-falls : (d : Desk) → 0 < d .left → ranOf d .desk .left < d .left
+unfolding ranOf
+left-falls d h = go (eqb n 0) refl
+  where
+    n : ℕ
+    n = runOf (d .state) (dueTicks d) .count
+
+    go : (b : Bool) → eqb n 0 ≡ b → pick b 0 (dueTicks d - n) < d .left
+    go true e = h
+    go false e =
+        let some : 1 ≤ n = omega (arith, eqb-false n 0 e) in
+        omega (arith, due-left d)

@@ -1,0 +1,4 @@
+pub mod Desk
+pub mod Trace
+pub mod Meaning
+pub mod Worked

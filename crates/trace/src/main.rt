@@ -1,0 +1,197 @@
+// The trace program of document 01. It reads standard input to its end and writes the trace. Crate `desk` decides what a message does, crate `lines` has what a
+// line says; here bytes are read, handed over and written, in large pieces.
+use desk::Desk;
+use libc::STDIN_FILENO;
+use libc::STDOUT_FILENO;
+use lines::Line;
+use message::Message;
+use std::num::wrapping_add_u64;
+ghost use Prim.Native.Nat.{_<_, _≤_};
+
+// The bytes of messages that are read at a time: whole messages.
+const CHUNK: usize = Message::LENGTH * 10_000;
+
+// The desk's run, the place of the next message in the input, and how far the output buffer is filled. `going`: the program goes on.
+struct Run {
+    desk: Desk,
+    place: u64,
+    at: usize,
+    going: bool,
+}
+
+// How far the output buffer is filled, when it has room for a batch of lines.
+struct Space {
+    at: usize,
+    going: bool,
+}
+
+fn least(a: usize, b: usize) -> usize
+    ensures { λ r. ⌜ r ≤ a ⌝ }
+    ensures { λ r. ⌜ r ≤ b ⌝ }
+    ensures { λ r. ⌜ (0 < a → 0 < b → 0 < r) ⌝ }
+{
+    if a <= b {
+        return a;
+    }
+    b
+}
+
+fn with(desk: Desk, place: u64, at: usize, going: bool) -> Run {
+    Run {
+        desk: desk,
+        place: place,
+        at: at,
+        going: going,
+    }
+}
+
+// Writes the first n bytes out, or all where there are fewer.
+fn write(out: &[u8], n: usize) -> bool {
+    let end = least(n, out.len());
+    io::write_all(STDOUT_FILENO, &out[..end])
+}
+
+// Writes out what the buffer holds, where it may not have room for a batch of lines.
+fn spare(out: &[u8], at: usize) -> Space {
+    if at <= least(out.len(), out.len() - least(lines::BATCH_ROOM, out.len())) {
+        return Space {
+            at: at,
+            going: true,
+        };
+    }
+    Space {
+        at: 0,
+        going: write(out, at),
+    }
+}
+
+// The ticks that are left, batch after batch.
+fn ticks(out: &mut [u8], desk: Desk, place: u64, from: usize) -> Run {
+    let mut d = desk;
+    let mut at = from;
+    while 0 < d.left {
+        let s = spare(out, at);
+        if !s.going {
+            return with(d, place, 0, false);
+        }
+        let b = desk::run_on(d);
+        let answers = b.answers;
+        at = lines::ticks(out, s.at, b.first, answers, b.count);
+        d = b.desk;
+    }
+    with(d, place, at, true)
+}
+
+fn one_message(bytes: &[u8], out: &mut [u8], r: Run) -> Run {
+    let s = spare(out, r.at);
+    let d = r.desk;
+    if !s.going {
+        return with(d, r.place, 0, false);
+    }
+    let m = desk::message(d, r.place, bytes);
+    let l = m.line;
+    let at = lines::message_line(out, s.at, l);
+    let next = m.desk;
+    if m.stop {
+        write(out, at);
+        return with(next, r.place, 0, false);
+    }
+    ticks(
+        out,
+        next,
+        wrapping_add_u64(r.place, Message::LENGTH as u64),
+        at,
+    )
+}
+
+// The messages of a chunk; the last may be cut.
+fn chunk(bytes: &[u8], out: &mut [u8], r: Run) -> Run {
+    let mut run = r;
+    let mut i: usize = 0;
+    while i < bytes.len() {
+        let end = i + least(bytes.len() - i, Message::LENGTH);
+        run = one_message(&bytes[i..end], out, run);
+        if !run.going {
+            return run;
+        }
+        i = end;
+    }
+    run
+}
+
+// At the end of the input the last line is written.
+fn finish(out: &mut [u8], r: Run) {
+    let s = spare(out, r.at);
+    if s.going {
+        let d = r.desk;
+        let at = lines::end(out, s.at, d.ran);
+        write(out, at);
+    }
+}
+
+// One chunk read and handed over.
+fn turn(input: &mut [u8], out: &mut [u8], r: Run) -> Run {
+    let most = least(CHUNK, input.len());
+    let n = least(io::read_full(STDIN_FILENO, &mut input[..most]), input.len());
+    let run = chunk(&input[..n], out, r);
+    if !run.going {
+        return run;
+    }
+    if most <= n {
+        return run;
+    }
+    finish(out, run);
+    let d = run.desk;
+    with(d, run.place, 0, false)
+}
+
+// A proved loop has to end, and nothing says that the input does: the turns are counted down from a number that no run uses up.
+fn messages(input: &mut [u8], out: &mut [u8], r: Run) {
+    let mut run = r;
+    let mut turns = u64::MAX;
+    while 0 < turns {
+        run = turn(input, out, run);
+        if !run.going {
+            return;
+        }
+        turns = turns - 1;
+    }
+}
+
+// As many bytes as the first two say, or all there are.
+fn read_setup(input: &mut [u8]) -> usize {
+    let two = least(2, input.len());
+    let head = io::read_full(STDIN_FILENO, &mut input[..two]);
+    let stated = least(field::two(input, 0, 0) as usize, input.len());
+    if stated <= two {
+        return least(stated, head);
+    }
+    if head < two {
+        return head;
+    }
+    head + io::read_full(STDIN_FILENO, &mut input[two..stated])
+}
+
+fn refuse(out: &mut [u8], at: usize, number: u8, place: usize) {
+    let end = lines::message_line(out, at, Line::Refused(number, place as u64));
+    write(out, end);
+}
+
+fn program(input: &mut [u8], out: &mut [u8]) {
+    let n = least(read_setup(input), input.len());
+    let o = desk::open(&input[..n]);
+    let at = lines::header(out, 0);
+    let r = o.refusal;
+    if r.number != 0 {
+        refuse(out, at, r.number, r.place);
+        return;
+    }
+    let d = o.desk;
+    messages(input, out, with(d, n as u64, at, true));
+}
+
+fn main() {
+    let mut input = io::large_buffer();
+    let mut out = io::large_buffer();
+    program(&mut input, &mut out);
+}

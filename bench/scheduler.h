@@ -25,6 +25,7 @@ static uint8_t take(Queue *q)
     uint8_t id = q->cells[0].id;
     q->len--;
     memmove(q->cells, q->cells + 1, q->len * sizeof(Cell));
+    q->cells[q->len] = (Cell){ 0, 0 };
     return id;
 }
 

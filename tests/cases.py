@@ -136,7 +136,7 @@ def lost_to_the_top():
 
 
 def pieces():
-    """Input and output about 65,536 bytes, where a program that reads or writes in such pieces begins the next one."""
+    """Input and output about 65,536 bytes, and 10,000 messages, where a program that reads or writes in such pieces begins the next one."""
     for ticks in range(7_401, 7_407):
         yield Case(f"about 65,536 bytes of output: {ticks} ticks", setup(NO_TASKS) + run(ticks))
     for count in range(3_366, 3_370):
@@ -148,6 +148,10 @@ def pieces():
     whole = setup(WORKED) + run(0) * 21_840 + run(2)
     for size in (65_534, 65_535, 65_536, 65_537, 65_540, 131_071, 131_072, 131_073):
         yield Case(f"input of {size} bytes", whole[:size])
+    for count in (10_000, 20_000):
+        whole = setup(WORKED) + run(0) * (count - 1) + run(2) + run(3)
+        for more in (-1, 0, 1, 5):
+            yield Case(f"{count} messages and {more} bytes", whole[:len(setup(WORKED)) + len(run(0)) * count + more])
 
 
 # VALID INPUTS AT THE EDGES

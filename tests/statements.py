@@ -11,7 +11,7 @@ ROOT = pathlib.Path(__file__).resolve().parent.parent
 
 def declares(text, name, rust):
     if rust:
-        return re.search(rf"^\s*pub fn {re.escape(name)}\(", text, re.M) is not None
+        return re.search(rf"^\s*pub (extern \"C\" )?fn {re.escape(name)}\(", text, re.M) is not None
     return re.search(rf"^\s*(abbrev |unfoldable )?(pub )?(record )?{re.escape(name)} (:|\()", text, re.M) is not None
 
 
@@ -20,7 +20,10 @@ def faults(page, root):
     wrong, statements, edits = [], 0, set()
     for number, line in enumerate(page.split("\n"), 1):
         parts = [part.strip() for part in line.strip().strip("|").split("|")]
-        if not line.startswith("|") or len(parts) != 4 or "`crates/" not in parts[2]:
+        if not line.startswith("|") or "`crates/" not in line:
+            continue
+        if len(parts) != 4 or "`crates/" not in parts[2]:
+            wrong.append(f"line {number}: a row that names a file has not its four parts")
             continue
         texts = []
         for path in re.findall(r"`(crates/[^`]+)`", parts[2]):
@@ -50,7 +53,7 @@ def main():
     # the test itself must be able to fail: a name that is nowhere, a file that is not there, an edit that is not there
     row = "| x | `{}` | `{}` | `{}` |"
     here = "crates/refusal/specs/Refusal.antt"
-    for broken in (row.format("nowhere", here, ""), row.format("firstOf", "crates/none.antt", ""), row.format("firstOf", here, "refusal/none")):
+    for broken in ("| x | `firstOf` | `" + here + "` |", row.format("nowhere", here, ""), row.format("firstOf", "crates/none.antt", ""), row.format("firstOf", here, "refusal/none")):
         if len(faults(page + "\n" + broken, ROOT)[0]) <= len(wrong):
             wrong.append(f"the test passes over {broken}")
     for line in wrong:

@@ -1,6 +1,7 @@
 """The trace program held to the model, whole output against whole output, on every case of tests/cases.py. It builds nothing.
 
     python3 tests/traces.py [PROGRAM]     PROGRAM: in place of target/bin/trace"""
+import os
 import pathlib
 import re
 import resource
@@ -189,6 +190,36 @@ def run_all(words, all_cases):
     return ticks
 
 
+def endless(words):
+    """What is wrong where reading or writing fails: the program must end, and soon. A full device takes no byte, a pipe that is closed is written to in vain, and a folder cannot be read."""
+    found = []
+    long = cases.setup(cases.WORKED) + cases.run(65_535) * 3
+    with open("/dev/full", "wb") as full:
+        ways = {"a full device": dict(stdout=full), "a closed pipe": dict(stdout=subprocess.PIPE)}
+        for name, way in ways.items():
+            process = subprocess.Popen(words, stdin=subprocess.PIPE, stderr=subprocess.DEVNULL, **way)
+            if process.stdout:
+                process.stdout.close()
+            try:
+                process.stdin.write(long)
+                process.stdin.close()
+                process.wait(MOST_SECONDS)
+            except BrokenPipeError:
+                process.wait(MOST_SECONDS)
+            except subprocess.TimeoutExpired:
+                process.kill()
+                found.append(f"it goes on after {name}")
+    folder = os.open("/", os.O_RDONLY)
+    try:
+        done = subprocess.run(words, stdin=folder, stdout=subprocess.PIPE, timeout=MOST_SECONDS)
+        if done.stdout != model.trace(b""):
+            found.append(f"a folder as input: {done.stdout!r}")
+    except subprocess.TimeoutExpired:
+        found.append("it goes on where its input cannot be read")
+    os.close(folder)
+    return found
+
+
 def main():
     stop([f"the model: {line}" for line in edges.faults()])
     stop([f"the test passes over {line}" for line in blind()])
@@ -197,6 +228,7 @@ def main():
     names = {case.name for case in all_cases}
     if len(names) < len(all_cases) or len(all_cases) < FEWEST_CASES:
         stop([f"{len(all_cases)} cases of {len(names)} names; at least {FEWEST_CASES} cases are due, each with its own name"])
+    stop(endless(words))
     ticks = run_all(words, all_cases)
     print(f"traces: {len(all_cases):,} cases, {ticks:,} ticks: the program and the model agree")
 

@@ -15,6 +15,7 @@ use Rattle.queue.proofs.time_left.Reads as time-left
 use Rattle.queue.proofs.clock.Reads as clock
 use Rattle.queue.proofs.take.Reads as take
 use Rattle.queue.proofs.push_back.Reads as push-back
+use Rattle.queue.proofs.is_empty.Reads as is-empty
 use Rattle.queue.proofs.falls.Reads as falls
 use Rattle.queue.proofs.due.Reads as due
 use Rattle.queue.proofs.first_id.Reads as first-id
@@ -54,6 +55,9 @@ pub push-back-one : One push-back.Post (λ κs x e. x)
 push-back-one κs a x y e f p q = same p q
 
 -- the total steps
+
+pub is-empty-one : One is-empty.Post (λ κs x e. x)
+is-empty-one κs a x y e f p q = same p q
 
 pub falls-one : One falls.Post (λ κs x e. x)
 falls-one κs a x y e f p q = same p q

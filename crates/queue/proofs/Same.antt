@@ -16,7 +16,7 @@ use Rattle.queue.specs.Limits.{filler}
 use Rattle.queue.specs.Row.{cell, cellsOf, queueOf, eventsOf}
 use Rattle.queue.specs.Sound.{soundb, hasb}
 use Rattle.queue.specs.Calls.{acceptedWith, refusedWith, takenWith, dueb, clockOf, takeOf, insertOf}
-use Rattle.queue.specs.Steps.{firstCell, dueStep, lessHead, nearerStep, restStep, tickStep, fallsStep, placeStep}
+use Rattle.queue.specs.Steps.{firstCell, dueStep, emptyStep, lessHead, nearerStep, restStep, tickStep, fallsStep, placeStep}
 use Rattle.queue.specs.declared.Cell.{Cell}
 use Rattle.queue.specs.declared.Queue.{Queue}
 use Rattle.queue.proofs.Soundness.{sound-is, sound-again}
@@ -58,8 +58,8 @@ module _ (M D : ℕ) (q : Queue) (m : 1 ≤ M) (s : soundb M D q ≡ true) where
 -- What a tick does to a queue whose first gap stays above 0, or that is empty
 
 -- an empty queue stays as it is, with nothing due
-pub still-tick : (q : Queue) → eqb (q .len) 0 ≡ true → (tickStep q ≡ q) × (dueStep (tickStep q) ≡ false)
-unfolding tickStep dueStep
+pub still-tick : (q : Queue) → emptyStep q ≡ true → (tickStep q ≡ q) × (dueStep (tickStep q) ≡ false)
+unfolding emptyStep tickStep dueStep
 still-tick q e =
     let l : q .len ≡ 0 = eqb-true (q .len) 0 e in
     let t : tickStep q ≡ q = rw e in

@@ -1,5 +1,5 @@
--- The total steps on a row: an outcome for every queue, sound or not, with no check of the whole. On a sound queue they are the calls
--- (proofs/Same.antt). A scheduler that has checked its state once goes by these.
+-- The total steps on a row: an outcome for every queue, sound or not, with no check of the whole. Where a call on a
+-- sound queue would not be refused, the step is the call (proofs/Same.antt). A scheduler that has checked its state once goes by these.
 use mathlib.Core.Bool.{Bool}
 use mathlib.Core.List.{List, [], _∷_, _++_}
 use Prim.Native.Nat.{ℕ, _+_, _-_}
@@ -43,6 +43,10 @@ unfoldable pub tickStep : Queue → Queue
 tickStep q =
     pick (eqb (q .len) 0) q (pick (both (eqb (firstCell q .id) filler) (eqb (firstCell q .gap) 1)) (restStep q) (nearerStep q))
 
+-- no cell is in use
+unfoldable pub emptyStep : Queue → Bool
+emptyStep q = eqb (q .len) 0
+
 -- the first gap falls at a clock tick and stays above 0
 unfoldable pub fallsStep : Queue → Bool
 fallsStep q = ltb 1 (firstCell q .gap)
@@ -73,6 +77,6 @@ placeStep M q id d =
     changed (firstOf (check unsound (ltb cellCount (q .len)) ∷ check noRoom (ltb cellCount (length row)) ∷ [])) q
     (record { cells = row ++ drop (length row) (q .cells); len = length row })
 
--- the first cell goes, and its event is put in again, d away
+-- the first cell goes, and its event is put in again, d away; where there is no room it is gone
 unfoldable pub againStep : ℕ → Queue → ℕ → Queue
 againStep M q d = placeStep M (restStep q) (firstCell q .id) d .queue

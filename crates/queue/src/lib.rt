@@ -15,7 +15,7 @@ ghost use Rattle.queue.specs.Sound.{soundb};
 ghost use Rattle.queue.specs.Holds.{holdsb};
 ghost use Rattle.queue.specs.Calls.{acceptedWith, refusedWith, insertOf, removeOf, timeLeftOf, clockOf, takeOf, pushBackOf};
 ghost use Rattle.queue.specs.Lent.{tookOf, apartOf};
-ghost use Rattle.queue.specs.Steps.{firstCell, dueStep, fallsStep, nearerStep, restStep, tickStep, placeStep, againStep};
+ghost use Rattle.queue.specs.Steps.{firstCell, dueStep, emptyStep, fallsStep, nearerStep, restStep, tickStep, placeStep, againStep};
 ghost use Rattle.queue.specs.Moves.{seenb, fullb, plainb, spacedb, gapsOf, sumOf, passOf, Passed, nextOf, Sought, nowhereFound, chainFor, chainTo, linkOf, linksOf, queueWith, movedTo, pushCells};
 
 // An event (id 0 to 254) or a filler (id 255), with its gap to the cell before it. The first gap counts from now.
@@ -331,7 +331,13 @@ fn take_apart(q: Queue) -> Apart
     }
 }
 
-// THE TOTAL STEPS: no `requires`, and an outcome for every row. On a sound queue they are the calls (proofs/Same.antt).
+// THE TOTAL STEPS: no `requires`, and an outcome for every row. Where a call on a sound queue would not be refused, the step is the call (proofs/Same.antt).
+
+pub fn is_empty(q: Queue) -> bool
+    ensures { λ r. ⌜ r ≡ emptyStep q ⌝ }
+{
+    q.len == 0
+}
 
 // Whether the first gap falls at a clock tick and stays above 0.
 pub fn falls(q: Queue) -> bool

@@ -3,6 +3,7 @@ ghost use mathlib.Core.Path.{_≡_};
 ghost use Rattle.refusal.specs.Refusal.{none, refused};
 
 // Number 0 is "not refused". The place is 0 where the document names none.
+#[repr(C)]
 pub struct Refusal {
     pub number: u8,
     pub place: usize,

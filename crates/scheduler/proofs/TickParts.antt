@@ -14,7 +14,7 @@ use Rattle.refusal.specs.Small.{alter}
 use Rattle.refusal.proofs.Small.{both-right}
 use Rattle.queue.specs.Limits.{maxGap, longest}
 use Rattle.queue.specs.Sound.{soundb}
-use Rattle.queue.specs.Steps.{dueStep, fallsStep, nearerStep, tickStep}
+use Rattle.queue.specs.Steps.{emptyStep, dueStep, fallsStep, nearerStep, tickStep}
 use Rattle.queue.specs.declared.Queue.{Queue}
 use Rattle.queue.proofs.Same.{falls-tick, still-tick}
 use Rattle.table.specs.Limits.{entries}
@@ -159,7 +159,7 @@ module _ {t : Table} {es₀ es : List Entry} {n₀ n i : ℕ} (v : Serving t es�
       rw e (serve-none (nearerStep q) (k .0) (k .1))
 
   -- it has no event
-  pub serve-still : eqb (entry .arrivals .len) 0 ≡ true → Serving t es₀ n₀ es n (i + 1)
+  pub serve-still : emptyStep (entry .arrivals) ≡ true → Serving t es₀ n₀ es n (i + 1)
   serve-still h =
       let k = still-tick (entry .arrivals) h in
       rw (set-getD es i pastEntry) at (serve-none (entry .arrivals) (k .0) (k .1))

@@ -16,7 +16,7 @@ ghost use Rattle.refusal.specs.Refusal.{none, refused};
 ghost use Rattle.queue.specs.Limits.{maxGap, longest};
 ghost use Rattle.queue.specs.Holds.{holdsb};
 ghost use Rattle.queue.specs.Calls.{insertOf};
-ghost use Rattle.queue.specs.Steps.{fallsStep, nearerStep};
+ghost use Rattle.queue.specs.Steps.{emptyStep, fallsStep, nearerStep};
 ghost use Rattle.table.specs.Limits.{mostWork, entries};
 ghost use Rattle.table.specs.Table.{releaseNumber, periodOf};
 ghost use Rattle.table.specs.Sound.{usedb, tableb};
@@ -397,10 +397,9 @@ fn falls(e: Entry) -> bool
 
 // Whether the server has no periodic task.
 fn still(e: Entry) -> bool
-    ensures { λ r. ⌜ r ≡ eqb (e .arrivals .len) 0 ⌝ }
+    ensures { λ r. ⌜ r ≡ emptyStep (e .arrivals) ⌝ }
 {
-    let q = e.arrivals;
-    q.len == 0
+    queue::is_empty(e.arrivals)
 }
 
 fn nearer(e: Entry) -> Entry

@@ -1,0 +1,9 @@
+pub mod Many
+pub mod Storing
+pub mod Places
+pub mod Sizing
+pub mod Ranges
+pub mod Answering
+pub mod Held
+pub mod HeldState
+pub mod OneOutcome

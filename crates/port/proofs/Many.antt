@@ -1,0 +1,169 @@
+-- Things of so many words each, one behind the other: how many words they take, what reads back, and what a loop that reads or writes them one by one has done
+-- before the one at i. Over any kind of thing, its size in words, its reader g and its words f. Assumes nothing.
+use mathlib.Core.Path.{_≡_, refl, sym, ap, _∙_}
+use mathlib.Core.List.{List, [], _∷_, _++_, append-assoc, append-nil}
+use Prim.Native.Nat.{ℕ, zero, suc, _+_, _*_, _≤_, _<_}
+use native.Mathlib.Nat.{add-zero, mul-zero, mul-suc, mul-le-mul-left, add-comm, not-suc-le-zero}
+use native.Mathlib.Numerals.{add-one}
+use native.Mathlib.Omega.{arith}
+use lib.ListN.{length, take, drop, getD, set, replicate, length-append, length-drop, length-set, length-replicate}
+use lib.Seq.{take-suc, take-all, take-add, take-suc-set, drop-at, drop-length, drop-drop, getD-drop, length-take-le}
+use Rattle.refusal.proofs.Rows.{All, all-at}
+use Rattle.field.specs.Field.{over}
+use Rattle.field.proofs.Fields.{over-over, over-length, over-nil, over-start}
+use Rattle.port.specs.Words.{word, manyIn, manyWords}
+
+-- what holds of every thing holds of each of a list
+pub all-of : {A : Type 0} {P : A → Type 0} → ((x : A) → P x) → (xs : List A) → All P xs
+all-of h [] = tt
+all-of h (x ∷ xs) = (h x, all-of h xs)
+
+pub all-first : {A : Type 0} (P : A → Type 0) (n : ℕ) (xs : List A) → All P xs → All P (take n xs)
+all-first P zero xs a = tt
+all-first P (suc n) [] a = tt
+all-first P (suc n) (x ∷ xs) a = (a .0, all-first P n xs (a .1))
+
+-- the place of the one behind the first, of the one at i + 1
+next-place : (size i : ℕ) → size * suc i ≡ size + size * i
+next-place size i = mul-suc size i ∙ add-comm (size * i) size
+
+-- the word that stands at a place of the words from another on
+pub word-at : (k at : ℕ) (w : List ℕ) → word k (drop at w) ≡ getD w (at + k) 0
+word-at k at w = getD-drop at w k 0
+
+pub word-here : (at : ℕ) (w : List ℕ) → getD w at 0 ≡ word 0 (drop at w)
+word-here at w = rw (getD-drop, add-zero)
+
+-- READING
+
+module _ {A : Type 0} (size : ℕ) (g : List ℕ → A) where
+  pub many-count : (n : ℕ) (ws : List ℕ) → length (manyIn size g n ws) ≡ n
+  many-count zero ws = refl
+  many-count (suc n) ws = ap suc (many-count n (drop size ws))
+
+  -- the one at i
+  pub many-at : (n i : ℕ) (ws : List ℕ) (z : A) → i < n → getD (manyIn size g n ws) i z ≡ g (drop (size * i) ws)
+  many-at zero i ws z h = absurd (not-suc-le-zero h)
+  many-at (suc n) zero ws z h = rw mul-zero
+  many-at (suc n) (suc i) ws z h = rw (many-at n i (drop size ws) z (omega arith), drop-drop, next-place)
+
+  -- one more
+  pub many-more : (i : ℕ) (ws : List ℕ) → manyIn size g (i + 1) ws ≡ manyIn size g i ws ++ (g (drop (size * i) ws) ∷ [])
+  many-more zero ws = rw mul-zero
+  many-more (suc i) ws =
+      let e : suc i + 1 ≡ suc (i + 1) = omega arith in
+      rw (e, many-more i (drop size ws), drop-drop, next-place)
+
+  -- A loop that reads the n things from the place `at` of the words w on into an array xs: before the one at i, the first i are read
+  pub record Read (n at : ℕ) (w : List ℕ) (xs : List A) (i : ℕ) : Type 0 where
+    pub few : i ≤ n
+    pub full : length xs ≡ n
+    pub first : take i xs ≡ manyIn size g i (drop at w)
+
+  module _ (n at : ℕ) (w : List ℕ) (xs : List A) where
+    pub read-none : length xs ≡ n → Read n at w xs 0
+    read-none l = record { few = omega arith; full = l; first = refl }
+
+    -- x is stored at i; k is the place that it is read from
+    pub read-more : {i : ℕ} → Read n at w xs i → i < n → (k : ℕ) (x : A) → k ≡ at + size * i → x ≡ g (drop k w) → Read n at w (set xs i x) (i + 1)
+    read-more {i} r h k x p e =
+        let m : take (i + 1) (set xs i x) ≡ take i xs ++ (x ∷ []) = rw add-one (take-suc-set xs i x (omega (arith, r .full))) in
+        record { few = omega arith; full = length-set xs i x ∙ r .full; first = rw (m, r .first, many-more, drop-drop, e, p) }
+
+    pub read-all : {i : ℕ} → Read n at w xs i → n ≤ i → xs ≡ manyIn size g n (drop at w)
+    read-all {i} r h =
+        let e : i ≡ n = omega (arith, r .few) in
+        sym (take-all n xs (omega (arith, r .full))) ∙ (rw e at (r .first))
+
+  -- an array whose every entry is the first thing
+  pub read-first : (n at : ℕ) (w : List ℕ) (x : A) → x ≡ g (drop at w) → Read (suc n) at w (replicate (suc n) x) 1
+  read-first n at w x e = record { few = omega arith; full = ap suc (length-replicate n x); first = rw e }
+
+-- WRITING
+
+module _ {A : Type 0} (f : A → List ℕ) where
+  many-append : (xs ys : List A) → manyWords f (xs ++ ys) ≡ manyWords f xs ++ manyWords f ys
+  many-append [] ys = refl
+  many-append (x ∷ xs) ys = rw (many-append xs ys, append-assoc)
+
+  -- the words of one more
+  pub words-more : (xs : List A) (i : ℕ) (z : A) → i < length xs → manyWords f (take (i + 1) xs) ≡ manyWords f (take i xs) ++ f (getD xs i z)
+  words-more xs i z h = rw (add-one, take-suc xs i z, many-append, append-nil)
+
+  -- each takes so many words
+  abbrev pub Sizes : ℕ → List A → Type 0
+  Sizes size xs = All (λ x. length (f x) ≡ size) xs
+
+  pub sizes-of : (size : ℕ) → ((x : A) → length (f x) ≡ size) → (xs : List A) → Sizes size xs
+  sizes-of size h xs = all-of h xs
+
+  pub many-length : (size : ℕ) (xs : List A) → Sizes size xs → length (manyWords f xs) ≡ size * length xs
+  many-length size [] a = sym (mul-zero size)
+  many-length size (x ∷ xs) a = rw (length-append, a .0, many-length size xs (a .1), next-place)
+
+  -- A loop that writes the words of the things xs over a buffer from the place `at` on: before the one at i, those of the first i are written. `out` is the
+  -- buffer then.
+  pub record Wrote (xs : List A) (at : ℕ) (buf : List ℕ) (i : ℕ) (out : List ℕ) : Type 0 where
+    pub few : i ≤ length xs
+    pub words : out ≡ over at (manyWords f (take i xs)) buf
+
+  module _ (xs : List A) (at : ℕ) (buf : List ℕ) where
+    pub wrote-none : at ≤ length buf → Wrote xs at buf 0 buf
+    wrote-none h = record { few = omega arith; words = sym (over-nil at buf h) }
+
+    pub wrote-length : {i : ℕ} {out : List ℕ} → Wrote xs at buf i out → length out ≡ length buf
+    wrote-length r = rw (r .words) (over-length at _ buf)
+
+    pub wrote-all : {i : ℕ} {out : List ℕ} → Wrote xs at buf i out → length xs ≤ i → out ≡ over at (manyWords f xs) buf
+    wrote-all {i} r h = rw (take-all i xs h) at (r .words)
+
+    -- where the buffer has room for all: room for the one at i, and one more is written; k is the place that it is written to
+    module _ (size : ℕ) (each : Sizes size xs) (room : at + size * length xs ≤ length buf)
+        {i : ℕ} {out : List ℕ} (r : Wrote xs at buf i out) (h : i < length xs) (k : ℕ) (place : k ≡ at + size * i) where
+      fits : k + size ≤ length buf
+      fits = omega (arith, mul-le-mul-left size h, mul-suc size i)
+
+      before : length (manyWords f (take i xs)) ≡ size * i
+      before = rw (many-length size (take i xs) (all-first (λ x. length (f x) ≡ size) i xs each), length-take-le i xs (omega arith))
+
+      pub wrote-room : k + size ≤ length out
+      wrote-room = rw (wrote-length r) fits
+
+      pub wrote-more : (z : A) (out' : List ℕ) → out' ≡ over k (f (getD xs i z)) out → Wrote xs at buf (i + 1) out'
+      wrote-more z out' e =
+          let x = getD xs i z in
+          let ws = manyWords f (take i xs) in
+          let here : k ≡ at + length ws = omega (arith, before) in
+          let l : length (f x) ≡ size = all-at (λ y. length (f y) ≡ size) z xs each i h in
+          record { few = omega arith; words = rw (e, words-more xs i z h, r .words, here) (over-over at ws (f x) buf (omega (arith, fits))) }
+
+-- the same where words hs were written first: `out` is the buffer behind both
+pub behind : (at k : ℕ) (hs ws buf mid out : List ℕ) → mid ≡ over at hs buf → out ≡ over k ws mid → k ≡ at + length hs → k + length ws ≤ length buf
+    → out ≡ over at (hs ++ ws) buf
+behind at k hs ws buf mid out p q e h = rw (q, p, e) (over-over at hs ws buf (omega arith))
+
+-- words over all of a buffer
+pub over-all : (xs buf : List ℕ) → length xs ≡ length buf → over 0 xs buf ≡ xs
+over-all xs buf e = rw (over-start xs buf (omega arith), e, drop-length, append-nil)
+
+-- WRITTEN, THEN READ
+
+module _ {A : Type 0} (size : ℕ) (f : A → List ℕ) (g : List ℕ → A) where
+  -- a thing of the size whose words read back, whatever stands behind them
+  pub record Back (x : A) : Type 0 where
+    pub whole : length (f x) ≡ size
+    pub back : (rest : List ℕ) → g (f x ++ rest) ≡ x
+
+  pub many-back : (xs : List A) (rest : List ℕ) → All Back xs → manyIn size g (length xs) (manyWords f xs ++ rest) ≡ xs
+  many-back [] rest a = refl
+  many-back (x ∷ xs) rest a =
+      let e = append-assoc (f x) (manyWords f xs) rest in
+      rw (e, a .0 .back (manyWords f xs ++ rest), drop-at (f x) (manyWords f xs ++ rest) size (a .0 .whole), many-back xs rest (a .1))
+
+  -- READ, THEN WRITTEN: where each thing that is read and of which P holds has the words that it is read from
+  module _ (P : A → Type 0) (held : (ws : List ℕ) → size ≤ length ws → P (g ws) → f (g ws) ≡ take size ws) where
+    pub many-held : (n : ℕ) (ws : List ℕ) → size * n ≤ length ws → All P (manyIn size g n ws) → manyWords f (manyIn size g n ws) ≡ take (size * n) ws
+    many-held zero ws h a = rw mul-zero
+    many-held (suc n) ws h a =
+        let m : size + size * n ≤ length ws = rw (← next-place size n) h in
+        rw (next-place, take-add size (size * n) ws, held ws (omega arith) (a .0), many-held n (drop size ws) (rw length-drop (omega arith)) (a .1))

@@ -1,0 +1,95 @@
+-- What lent memory holds behind a call: where the call is accepted what it gives, and where it is refused what the memory held; and that the queue of an
+-- accepted call can be stored. Assumes nothing.
+use mathlib.Core.Path.{_≡_, refl, sym, ap, _∙_}
+use mathlib.Core.Bool.{true}
+use mathlib.Core.List.{List, [], _∷_}
+use Prim.Native.Nat.{ℕ, _<_}
+use native.Mathlib.Omega.{arith}
+use lib.ListN.{length}
+use borrow.Author.Tests.{ne-eqb}
+use Rattle.refusal.specs.declared.Refusal.{Refusal}
+use Rattle.field.specs.Field.{over}
+use Rattle.queue.specs.Limits.{cellCount, maxGap, longest}
+use Rattle.queue.specs.Sound.{soundb}
+use Rattle.queue.specs.Calls.{insertOf, removeOf, clockOf, takeOf, pushBackOf}
+use Rattle.queue.specs.declared.Cell.{Cell}
+use Rattle.queue.specs.declared.Queue.{Queue}
+use Rattle.queue.specs.declared.Changed.{Changed}
+use Rattle.queue.proofs.Soundness.{sound-is, sound-full}
+use Rattle.queue.proofs.Refusals.{insert-accepted, remove-accepted, clock-accepted, take-accepted, push-back-accepted}
+use Rattle.queue.proofs.Keeps.{insert-sound, remove-sound, clock-sound, take-sound, push-back-sound}
+use Rattle.port.specs.Layout.{wordLimit, queueSize}
+use Rattle.port.specs.Words.{cellWord, queueWords}
+use Rattle.port.specs.Exports.{heldAfter, heldQueue}
+use Rattle.port.proofs.Many.{sizes-of, many-length, over-all}
+
+-- ACCEPTED OR REFUSED: x is the answer's refusal, r the definition's
+
+module _ (x r : Refusal) (e : x ≡ r) (new old : List ℕ) where
+  pub held-new : x .number ≡ 0 → heldAfter r new old ≡ new
+  held-new h = rw (← e, h)
+
+  pub held-old : (x .number ≡ 0 → ⊥) → heldAfter r new old ≡ old
+  held-old h = rw (← e, ne-eqb _ _ h)
+
+-- QUEUES
+
+-- all the words of a queue with all its cells
+pub queue-length : (q : Queue) → length (q .cells) ≡ cellCount → length (queueWords q) ≡ queueSize
+unfolding queueWords
+queue-length q h =
+    let one : Cell → List ℕ = λ c. cellWord c ∷ [] in
+    omega (arith, many-length one 1 (q .cells) (sizes-of one 1 (λ c. refl) (q .cells)))
+
+-- a sound queue's count fits into a word
+pub sound-few : (q : Queue) → soundb maxGap longest q ≡ true → q .len < wordLimit
+sound-few q s = omega (arith, sound-is maxGap longest q s .short)
+
+-- a call that gives a sound queue q where it is accepted: x and p are the answer's refusal and queue
+module _ (r : Refusal) (q : Queue) (sound : r .number ≡ 0 → soundb maxGap longest q ≡ true) (x : Refusal) (p : Queue) (e : x ≡ r) (f : p ≡ q)
+    (accepted : x .number ≡ 0) where
+  is-sound : soundb maxGap longest q ≡ true
+  is-sound = sound (rw (← e) accepted)
+
+  pub queue-few : p .len < wordLimit
+  queue-few = rw f (sound-few q is-sound)
+
+  pub queue-stored : (w out : List ℕ) → length w ≡ queueSize → out ≡ over 0 (queueWords p) w → out ≡ heldAfter r (queueWords q) w
+  queue-stored w out l o =
+      let whole : length (queueWords q) ≡ length w = queue-length q (sound-full maxGap longest q (sound-is maxGap longest q is-sound)) ∙ sym l in
+      o ∙ rw f (over-all (queueWords q) w whole) ∙ sym (held-new x r e (queueWords q) w accepted)
+
+-- the same of a call that answers with a refusal and a queue
+module _ (call : Changed) (sound : call .refusal .number ≡ 0 → soundb maxGap longest (call .queue) ≡ true) (answer : Changed) (e : answer ≡ call) where
+  refusal : answer .refusal ≡ call .refusal
+  refusal = ap (λ (c : Changed). c .refusal) e
+
+  queue : answer .queue ≡ call .queue
+  queue = ap (λ (c : Changed). c .queue) e
+
+  pub changed-few : answer .refusal .number ≡ 0 → answer .queue .len < wordLimit
+  changed-few = queue-few (call .refusal) (call .queue) sound (answer .refusal) (answer .queue) refusal queue
+
+  pub changed-stored : answer .refusal .number ≡ 0 → (w out : List ℕ) → length w ≡ queueSize → out ≡ over 0 (queueWords (answer .queue)) w
+      → (answer .refusal ≡ call .refusal) × (out ≡ heldQueue call w)
+  changed-stored h w out l o = (refusal, queue-stored (call .refusal) (call .queue) sound (answer .refusal) (answer .queue) refusal queue h w out l o)
+
+  pub changed-kept : (answer .refusal .number ≡ 0 → ⊥) → (w : List ℕ) → (answer .refusal ≡ call .refusal) × (w ≡ heldQueue call w)
+  changed-kept h w = (refusal, sym (held-old (answer .refusal) (call .refusal) refusal (queueWords (call .queue)) w h))
+
+-- an accepted call's queue is sound: the call before it was on a sound queue
+module _ (q : Queue) where
+  pub insert-gives : (id delay : ℕ) → let c = insertOf maxGap longest q id delay in c .refusal .number ≡ 0 → soundb maxGap longest (c .queue) ≡ true
+  insert-gives id delay h = insert-sound maxGap longest q id delay (insert-accepted maxGap longest q id delay .0 h .0)
+
+  pub remove-gives : (id : ℕ) → let c = removeOf maxGap longest q id in c .refusal .number ≡ 0 → soundb maxGap longest (c .queue) ≡ true
+  remove-gives id h = remove-sound maxGap longest q id (omega arith) (remove-accepted maxGap longest q id .0 h .0)
+
+  pub clock-gives : let c = clockOf maxGap longest q in c .refusal .number ≡ 0 → soundb maxGap longest (c .queue) ≡ true
+  clock-gives h = clock-sound maxGap longest q (omega arith) (clock-accepted maxGap longest q .0 h .0)
+
+  pub take-gives : let c = takeOf maxGap longest q in c .refusal .number ≡ 0 → soundb maxGap longest (c .queue) ≡ true
+  take-gives h = take-sound maxGap longest q (take-accepted maxGap longest q .0 h .0)
+
+  pub push-back-gives : let c = pushBackOf maxGap longest q in c .refusal .number ≡ 0 → soundb maxGap longest (c .queue) ≡ true
+  push-back-gives h = push-back-sound maxGap longest q (push-back-accepted maxGap longest q .0 h .0)

@@ -1,9 +1,10 @@
-# Sourced by bench/run and bench/trace: how a program is compiled, run and its instructions counted on this machine.
-#   compile              the words that compile a C program
-#   plain, proved        run a C program, and one of the kit
-#   count INPUT WORDS..  how many instructions these words take on that input
-#   words_of PROGRAM     sets `words`: a program of the kit as count takes it, under the kit's loader where it is emulated
-#   whole                1 where a count over a million ticks is in reach
+# Sourced by bench/run, bench/trace and bench/port: how a program is compiled, run and its instructions counted on this machine.
+#   compile                    the words that compile a C program
+#   plain, proved              run a C program, and one of the kit
+#   count INPUT WORDS..        how many instructions these words take on that input
+#   by_function INPUT WORDS..  the same for each function, a line each: NAME COUNT; a file in the folder that `room` names may be written
+#   words_of PROGRAM           sets `words`: a program of the kit as count takes it, under the kit's loader where it is emulated
+#   whole                      1 where a count over a million ticks is in reach
 die() { printf '%s: %s\n' "$0" "$*" >&2; exit 2; }
 have() { command -v "$1" >/dev/null || die "$1 is missing"; }
 
@@ -19,6 +20,10 @@ if [ "$(uname -m)" = x86_64 ]; then
     words_of() { words=("$1"); }
     # callgrind says the number on standard error
     count() { valgrind --tool=callgrind --callgrind-out-file=/dev/null "${@:2}" <"$1" 2>&1 >/dev/null | sed -n 's/.*Collected : //p'; }
+    by_function() {
+        valgrind --tool=callgrind --callgrind-out-file="$room/callgrind" "${@:2}" <"$1" >/dev/null 2>&1
+        callgrind_annotate --threshold=100 "$room/callgrind" | sed -nE 's/^ *([0-9,]+) \( *[0-9.]+%\) +[^:]*:([^ ]+).*/\2 \1/p' | tr -d ,
+    }
 else
     # The kit's emulator writes a line for each instruction. The processor it plays has no `rep movsb` of its own, which would be a line for each byte copied.
     have x86_64-linux-gnu-gcc
@@ -30,10 +35,7 @@ else
     plain() { "$emulator" "$@"; }
     proved() { "$emulator" "$loader" --library-path "$kit/lib" "$@"; }
     words_of() { words=("$loader" --library-path "$kit/lib" "$1"); }
-    count() {
-        local input=$1
-        shift
-        set -- "$emulator" -cpu Haswell,-erms -one-insn-per-tb -d exec,nochain -D /dev/stderr "$@"
-        "$@" <"$input" 2>&1 >/dev/null | grep -c '^Trace'
-    }
+    instructions() { "$emulator" -cpu Haswell,-erms -one-insn-per-tb -d exec,nochain -D /dev/stderr "${@:2}" <"$1" 2>&1 >/dev/null | grep '^Trace'; }
+    count() { instructions "$@" | wc -l; }
+    by_function() { instructions "$@" | awk '{ n[NF > 4 ? $NF : "unnamed"]++ } END { for (name in n) print name, n[name] }'; }
 fi

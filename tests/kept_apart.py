@@ -7,18 +7,24 @@ import sys
 import tempfile
 
 ROOT = pathlib.Path(__file__).resolve().parent.parent
-CRATES = {"refusal": "", "queue": "refusal", "table": "refusal queue"}
+CRATES = {"refusal": "", "queue": "refusal", "table": "refusal queue", "scheduler": "refusal queue table"}
 PROGRAM = """use queue::Queue;
 use table::Server;
+use table::Table;
 
 fn main() {
     let s = Server::zero();
     queue::insert(Queue::empty(), 0, s.period);
+    let reach = [s.period; Queue::HELD];
+    queue::holds(Queue::empty(), reach);
+    scheduler::fresh(Table::zero());
 }
 """
 # the crate that is edited, what stands there, what is put there, the type that is due and the type that is handed over
 EDITS = (
-    ("program", "s.period", "s.budget", "Distance", "Served"),
+    ("program", "0, s.period", "0, s.budget", "Distance", "Served"),
+    ("program", "[s.period; Queue::HELD]", "[s.budget; Queue::HELD]", "[Distance; 8]", "[Served; 8]"),
+    ("scheduler", "put_in(q, i as u8, s.period)", "put_in(q, i as u8, s.budget)", "Distance", "Served"),
     ("table", "period: Distance(0)", "period: Served(0)", "Distance", "Served"),
     ("table", "budget: Served(0)", "budget: Distance(0)", "Served", "Distance"),
 )
@@ -30,12 +36,12 @@ def copy(work):
     (work / "crates" / "program" / "src").mkdir(parents=True)
     (work / "crates" / "program" / "src" / "main.rt").write_text(PROGRAM)
     lines = [f"{crate}: {below}\n" for crate, below in CRATES.items()]
-    (work / "crates.txt").write_text("".join(lines) + "program: table queue refusal\n")
+    (work / "crates.txt").write_text("".join(lines) + "program: scheduler table queue refusal\n")
 
 
 def rt(work, *words):
     """Whether rt passes, and what it says."""
-    run = subprocess.run(["rt", *words], cwd=work, capture_output=True, text=True, timeout=60)
+    run = subprocess.run(["rt", *words], cwd=work, capture_output=True, text=True, timeout=300)
     return run.returncode == 0, run.stdout + run.stderr
 
 

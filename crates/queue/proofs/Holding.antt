@@ -1,8 +1,8 @@
 -- Laws of `holds`: what is known of the cells passed, and that the flags say which ids are there. Over any reach. Assumes nothing.
-use mathlib.Core.Path.{_≡_, refl, sym, _∙_}
+use mathlib.Core.Path.{_≡_, refl, ap, sym, _∙_}
 use mathlib.Core.Bool.{Bool, true, false}
 use mathlib.Core.List.{List, [], _∷_, _++_, append-nil}
-use Prim.Native.Nat.{ℕ, suc, _+_, _≤_, _<_}
+use Prim.Native.Nat.{ℕ, zero, suc, _+_, _≤_, _<_}
 use native.Mathlib.Omega.{arith}
 use lib.Dec.{leb, ltb, eqb}
 use lib.ListN.{length, getD, set, replicate, length-set, getD-replicate}
@@ -13,10 +13,27 @@ use Rattle.refusal.proofs.Small.{both-true, either-false}
 use Rattle.queue.specs.Limits.{filler}
 use Rattle.queue.specs.Row.{Event, event, eventAt, eventsFrom}
 use Rattle.queue.specs.Sound.{hasb}
-use Rattle.queue.specs.Holds.{withinb, presentb}
+use Rattle.queue.specs.Holds.{inTicks, withinb, presentb}
 use Rattle.queue.specs.Moves.{gapsOf, seenb}
 use Rattle.queue.specs.declared.Cell.{Cell}
+use Rattle.queue.specs.declared.Distance.{Distance}
 use Rattle.queue.proofs.Scan.{idCount, has-append, has-here, gaps-append, events-append}
+
+-- DISTANCES AND THEIR TICKS
+
+pub ticks-length : (ds : List Distance) → length (inTicks ds) ≡ length ds
+ticks-length [] = refl
+ticks-length (d ∷ ds) = ap suc (ticks-length ds)
+
+pub ticks-at : (ds : List Distance) (i : ℕ) (z : Distance) → i < length ds → getD (inTicks ds) i 0 ≡ getD ds i z .0
+ticks-at [] i z h = absurd (omega arith)
+ticks-at (d ∷ ds) zero z h = refl
+ticks-at (d ∷ ds) (suc i) z h = ticks-at ds i z (omega arith)
+
+pub ticks-set : (ds : List Distance) (i : ℕ) (d : Distance) → inTicks (set ds i d) ≡ set (inTicks ds) i (d .0)
+ticks-set [] i d = refl
+ticks-set (x ∷ ds) zero d = refl
+ticks-set (x ∷ ds) (suc i) d = ap {B = List ℕ} (λ l. x .0 ∷ l) (ticks-set ds i d)
 
 pub within-append : (reach : List ℕ) (es fs : List Event) → withinb reach (es ++ fs) ≡ both (withinb reach es) (withinb reach fs)
 within-append reach [] fs = refl

@@ -15,15 +15,15 @@ use Rattle.queue.proofs.time_left.Reads as time-left
 use Rattle.queue.proofs.clock.Reads as clock
 use Rattle.queue.proofs.take.Reads as take
 use Rattle.queue.proofs.push_back.Reads as push-back
-use Rattle.queue.proofs.is_empty.Reads as is-empty
-use Rattle.queue.proofs.falls.Reads as falls
-use Rattle.queue.proofs.due.Reads as due
-use Rattle.queue.proofs.first_id.Reads as first-id
-use Rattle.queue.proofs.nearer.Reads as nearer
-use Rattle.queue.proofs.without_first.Reads as without-first
-use Rattle.queue.proofs.ticked.Reads as ticked
-use Rattle.queue.proofs.placed.Reads as placed
-use Rattle.queue.proofs.again.Reads as again
+use Rattle.queue.proofs.steps.is_empty.Reads as is-empty
+use Rattle.queue.proofs.steps.falls.Reads as falls
+use Rattle.queue.proofs.steps.due.Reads as due
+use Rattle.queue.proofs.steps.first_id.Reads as first-id
+use Rattle.queue.proofs.steps.nearer.Reads as nearer
+use Rattle.queue.proofs.steps.without_first.Reads as without-first
+use Rattle.queue.proofs.steps.ticked.Reads as ticked
+use Rattle.queue.proofs.steps.placed.Reads as placed
+use Rattle.queue.proofs.steps.again.Reads as again
 
 pub empty-one : One empty.Post (λ κs x e. x)
 empty-one κs a x y e f p q = same p q

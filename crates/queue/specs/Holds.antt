@@ -8,7 +8,13 @@ use lib.ListN.{getD}
 use Rattle.refusal.specs.Small.{pick, both}
 use Rattle.queue.specs.Row.{Event, eventsOf}
 use Rattle.queue.specs.Sound.{soundb, hasb}
+use Rattle.queue.specs.declared.Distance.{Distance}
 use Rattle.queue.specs.declared.Queue.{Queue}
+
+-- the ticks of distances
+abbrev pub inTicks : List Distance → List ℕ
+inTicks [] = []
+inTicks (d ∷ ds) = d .0 ∷ inTicks ds
 
 -- each event is 1 to its reach away
 abbrev pub withinb : List ℕ → List Event → Bool

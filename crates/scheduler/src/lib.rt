@@ -14,7 +14,7 @@ ghost use lib.Dec.{leb, ltb, eqb};
 ghost use Rattle.refusal.specs.Small.{pick};
 ghost use Rattle.refusal.specs.Refusal.{none, refused};
 ghost use Rattle.queue.specs.Limits.{maxGap, longest};
-ghost use Rattle.queue.specs.Holds.{holdsb};
+ghost use Rattle.queue.specs.Holds.{inTicks, holdsb};
 ghost use Rattle.queue.specs.Calls.{insertOf};
 ghost use Rattle.queue.specs.Steps.{emptyStep, fallsStep, nearerStep};
 ghost use Rattle.table.specs.Limits.{mostWork, entries};
@@ -359,15 +359,15 @@ fn all_due(s: Server, e: Entry) -> EntryTurn
 {
     let mut next = e;
     let mut handled: u32 = 0;
-    while queue::due(next.arrivals) {
-        let id = queue::first_id(next.arrivals);
+    while queue::steps::due(next.arrivals) {
+        let id = queue::steps::first_id(next.arrivals);
         let j = id as usize;
         let t = s.tasks[j];
         let work = t.work;
         let l = load_after(next.loads[j], work.0);
         next.loads[j] = l;
         let r = t.release;
-        let q = queue::again(next.arrivals, Distance(period_of(r)));
+        let q = queue::steps::again(next.arrivals, Distance(period_of(r)));
         next.arrivals = q;
         handled = handled + 1;
     }
@@ -383,7 +383,7 @@ fn served(s: Server, e: Entry) -> EntryTurn
     ensures { λ r. ⌜ r ≡ servedTurn s e ⌝ }
 {
     let mut next = e;
-    let q = queue::ticked(e.arrivals);
+    let q = queue::steps::ticked(e.arrivals);
     next.arrivals = q;
     all_due(s, next)
 }
@@ -392,21 +392,21 @@ fn served(s: Server, e: Entry) -> EntryTurn
 fn falls(e: Entry) -> bool
     ensures { λ r. ⌜ r ≡ fallsStep (e .arrivals) ⌝ }
 {
-    queue::falls(e.arrivals)
+    queue::steps::falls(e.arrivals)
 }
 
 // Whether the server has no periodic task.
 fn still(e: Entry) -> bool
     ensures { λ r. ⌜ r ≡ emptyStep (e .arrivals) ⌝ }
 {
-    queue::is_empty(e.arrivals)
+    queue::steps::is_empty(e.arrivals)
 }
 
 fn nearer(e: Entry) -> Entry
     ensures { λ r. ⌜ r ≡ withQueue (nearerStep (e .arrivals)) e ⌝ }
 {
     let mut next = e;
-    let q = queue::nearer(e.arrivals);
+    let q = queue::steps::nearer(e.arrivals);
     next.arrivals = q;
     next
 }
@@ -441,19 +441,19 @@ fn ticks(s: State, n: usize) -> Batch
             let y = charged(entries[c], j);
             entries[c] = y;
         }
-        if queue::falls(refills) {
-            refills = queue::nearer(refills);
+        if queue::steps::falls(refills) {
+            refills = queue::steps::nearer(refills);
         } else {
-            refills = queue::ticked(refills);
+            refills = queue::steps::ticked(refills);
         }
         let mut handled: u32 = 0;
-        while queue::due(refills) {
-            let id = queue::first_id(refills);
+        while queue::steps::due(refills) {
+            let id = queue::steps::first_id(refills);
             let f = id as usize;
             let v = table.servers[f];
             let y = filled(entries[f], v.budget);
             entries[f] = y;
-            refills = queue::again(refills, v.period);
+            refills = queue::steps::again(refills, v.period);
             handled = handled + 1;
         }
         let mut i: usize = 0;
@@ -590,43 +590,44 @@ fn load_sound(l: Load, used: bool) -> bool
 }
 
 // How far an arrival may be away, 0 where there is none.
-fn reach(r: Release) -> u32
-    ensures { λ x. ⌜ x ≡ releaseReach r ⌝ }
+fn reach(r: Release) -> Distance
+    ensures { λ x. ⌜ x .0 ≡ releaseReach r ⌝ }
 {
     match r {
-        Release::OnArrival => 0,
+        Release::OnArrival => Distance(0),
         Release::Periodic { period, offset } => {
             if period.0 <= offset.0 {
-                return offset.0;
+                return offset;
             }
-            period.0
+            period
         }
     }
 }
 
-fn task_reaches(s: Server) -> [u32; Table::ENTRIES]
-    ensures { λ r. ⌜ r ≡ taskReaches (s .tasks) ⌝ }
+fn task_reaches(s: Server) -> [Distance; Table::ENTRIES]
+    ensures { λ r. ⌜ inTicks r ≡ taskReaches (s .tasks) ⌝ }
 {
-    let mut out = [0u32; Table::ENTRIES];
+    let mut out = [Distance(0); Table::ENTRIES];
     let mut j: usize = 0;
     while j < Table::ENTRIES {
         let t = s.tasks[j];
         let r = t.release;
-        out[j] = reach(r);
+        let d = reach(r);
+        out[j] = d;
         j = j + 1;
     }
     out
 }
 
-fn server_reaches(t: Table) -> [u32; Table::ENTRIES]
-    ensures { λ r. ⌜ r ≡ serverReaches (t .servers) ⌝ }
+fn server_reaches(t: Table) -> [Distance; Table::ENTRIES]
+    ensures { λ r. ⌜ inTicks r ≡ serverReaches (t .servers) ⌝ }
 {
-    let mut out = [0u32; Table::ENTRIES];
+    let mut out = [Distance(0); Table::ENTRIES];
     let mut i: usize = 0;
     while i < Table::ENTRIES {
         let s = t.servers[i];
         let p = s.period;
-        out[i] = p.0;
+        out[i] = p;
         i = i + 1;
     }
     out
@@ -664,16 +665,16 @@ fn empty_state(t: Table) -> State
 }
 
 // How far a task's first arrival is away, 0 where it has none.
-fn first_away(r: Release) -> u32
-    ensures { λ x. ⌜ x ≡ firstAway r ⌝ }
+fn first_away(r: Release) -> Distance
+    ensures { λ x. ⌜ x .0 ≡ firstAway r ⌝ }
 {
     match r {
-        Release::OnArrival => 0,
+        Release::OnArrival => Distance(0),
         Release::Periodic { period, offset } => {
             if offset.0 == 0 {
-                return period.0;
+                return period;
             }
-            offset.0
+            offset
         }
     }
 }
@@ -705,13 +706,13 @@ fn fresh_load(t: Task) -> Load
 }
 
 // The queue with an event more, where it is to have one.
-fn put_in(q: Queue, id: u8, away: u32) -> Queue
-    ensures { λ r. ⌜ r ≡ pick (eqb away 0) q (insertOf maxGap longest q id away .queue) ⌝ }
+fn put_in(q: Queue, id: u8, away: Distance) -> Queue
+    ensures { λ r. ⌜ r ≡ pick (eqb (away .0) 0) q (insertOf maxGap longest q id (away .0) .queue) ⌝ }
 {
-    if away == 0 {
+    if away.0 == 0 {
         return q;
     }
-    let c = queue::insert(q, id, Distance(away));
+    let c = queue::insert(q, id, away);
     c.queue
 }
 
@@ -741,8 +742,7 @@ fn fresh_refills(t: Table) -> Queue
     let mut i: usize = 0;
     while i < Table::ENTRIES {
         let s = t.servers[i];
-        let p = s.period;
-        q = put_in(q, i as u8, p.0);
+        q = put_in(q, i as u8, s.period);
         i = i + 1;
     }
     q

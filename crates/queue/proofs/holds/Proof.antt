@@ -10,16 +10,16 @@ use lib.ListN.{length, getD, take, drop, length-map, take-append-drop}
 use Rattle.queue.specs.Limits.{maxGap, longest, cellCount}
 use Rattle.queue.specs.Row.{cell, cellsOf, eventsFrom}
 use Rattle.queue.specs.Sound.{soundb}
-use Rattle.queue.specs.Holds.{withinb, holdsb}
+use Rattle.queue.specs.Holds.{inTicks, withinb, holdsb}
 use Rattle.queue.proofs.Cells.{cells-step, cells-end}
 use Rattle.queue.proofs.Soundness.{sound-is}
 use Rattle.queue.proofs.Scan.{cells-past}
-use Rattle.queue.proofs.Holding.{Looked, looked-none, looked-out, looked-more, seen-present}
+use Rattle.queue.proofs.Holding.{ticks-length, Looked, looked-none, looked-out, looked-more, seen-present}
 use Rattle.queue.proofs.holds.Statement.{statement}
 use Rattle.queue.proofs.holds.Tie as tie
 
 abbrev Inv-loop : tie.InvT-loop
-Inv-loop reach q n seen₀ at₀ i₀ seen at i = (i ≤ n) × (n ≤ cellCount) × (at ≤ maxGap * i) × Looked reach (take i (cellsOf q)) seen at
+Inv-loop reach q n seen₀ at₀ i₀ seen at i = (i ≤ n) × (n ≤ cellCount) × (at ≤ maxGap * i) × Looked (inTicks reach) (take i (cellsOf q)) seen at
 
 abbrev μ-loop : tie.MeasureT-loop
 μ-loop reach q n seen₀ at₀ i₀ seen at i = n - i
@@ -53,7 +53,7 @@ unfolding holdsb
 returns c = rw (← c .before .sound .ensures, not-true (c .before .sound .result) (c .if1 .taken))
 
 loop-holds : tie.Need-loop-holds Inv-loop μ-loop
-loop-holds c = (omega arith, short c, omega arith, looked-none (c .before .before .args .reach))
+loop-holds c = (omega arith, short c, omega arith, looked-none (inTicks (c .before .before .args .reach)))
 
 mul-c : tie.Need-mul-c Inv-loop μ-loop
 mul-c c = omega arith
@@ -80,8 +80,8 @@ returns-2 c =
     let x = getD (q .cells) (l .i) (cell 0 0) in
     let w : take (l .i) (cellsOf q) ++ (x ∷ drop (l .i + 1) (cellsOf q)) ≡ cellsOf q = rw (step b) at (take-append-drop (l .i) (cellsOf q)) in
     let r = c .before .in-reach in
-    let t = looked-out (a .reach) (take (l .i) (cellsOf q)) (l .seen) (l .at) (l .inv .3) x (drop (l .i + 1) (cellsOf q)) (sym (r .ensures) ∙ not-true (r .result) (c .if2 .taken)) in
-    let d : withinb (a .reach) (eventsFrom 0 (cellsOf q)) ≡ false = rw w at t in
+    let t = looked-out (inTicks (a .reach)) (take (l .i) (cellsOf q)) (l .seen) (l .at) (l .inv .3) x (drop (l .i + 1) (cellsOf q)) (sym (r .ensures) ∙ not-true (r .result) (c .if2 .taken)) in
+    let d : withinb (inTicks (a .reach)) (eventsFrom 0 (cellsOf q)) ≡ false = rw w at t in
     rw (known (b .before .before), d)
 
 cast-seen : tie.Need-cast-seen Inv-loop μ-loop
@@ -108,7 +108,7 @@ loop-again c =
       omega arith,
       omega arith,
       omega arith,
-      rw (past b) (looked-more (a .reach) (take (l .i) (cellsOf q)) (l .seen) (l .at) (l .inv .3) x (omega arith) (sym (r .ensures) ∙ not-false (r .result) (e .if2 .left))),
+      rw (past b) (looked-more (inTicks (a .reach)) (take (l .i) (cellsOf q)) (l .seen) (l .at) (l .inv .3) x (omega arith) (sym (r .ensures) ∙ not-false (r .result) (e .if2 .left))),
     )
 
 all-seen-requires : tie.Need-all-seen-requires Inv-loop μ-loop
@@ -123,9 +123,9 @@ returns-3 c =
     let a = s .args in
     let q = a .t1 in
     let w : take (l .i) (cellsOf q) ≡ cellsOf q = rw (end b, append-nil) at (take-append-drop (l .i) (cellsOf q)) in
-    let k : Looked (a .reach) (cellsOf q) (l .seen) (l .at) = rw w at (l .inv .3) in
+    let k : Looked (inTicks (a .reach)) (cellsOf q) (l .seen) (l .at) = rw w at (l .inv .3) in
     let n : length (a .reach) ≡ 8 = s .good .1 .0 .1 .0 .1 in
-    rw (known (b .before .before), k .within) (c .all-seen .ensures ∙ seen-present (a .reach) 0 (l .seen) (eventsFrom 0 (cellsOf q)) (omega arith) (k .flagged))
+    rw (known (b .before .before), k .within) (c .all-seen .ensures ∙ seen-present (inTicks (a .reach)) 0 (l .seen) (eventsFrom 0 (cellsOf q)) (omega (arith, ticks-length (a .reach))) (k .flagged))
 
 pub holds-spec : {M : Type 1} → statement M
 holds-spec =

@@ -47,7 +47,7 @@ loop-less c = omega arith
 
 loop-again : tie.Need-loop-again Inv-loop μ-loop
 loop-again c =
-    let l = c .before .before .before .before in
+    let l = c .before .before .before in
     let s = l .before .before in
     let h = full s in
     (omega arith, put-step serverAway (s .args .t1 .servers) (l .loop .i) (l .loop .q) (l .loop .inv .1) _ (omega arith) (c .put-in .ensures))

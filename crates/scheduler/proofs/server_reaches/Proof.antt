@@ -4,6 +4,8 @@ use mathlib.Core.List.{_++_}
 use Prim.Native.Nat.{_+_, _-_, _≤_}
 use native.Mathlib.Omega.{arith}
 use lib.ListN.{length, getD, drop, take, length-map, length-set, drop-of-length-le}
+use Rattle.queue.specs.Holds.{inTicks}
+use Rattle.queue.proofs.Holding.{ticks-length, ticks-set}
 use Rattle.table.specs.Limits.{entries}
 use Rattle.scheduler.specs.Sound.{serverReaches}
 use Rattle.scheduler.proofs.Lists.{pastServer, drop-step, built-more, built-end}
@@ -12,7 +14,7 @@ use Rattle.scheduler.proofs.server_reaches.Tie as tie
 
 abbrev Inv-loop : tie.InvT-loop
 Inv-loop t out₀ i₀ out i =
-    (length out ≡ entries) × (i ≤ entries) × (take i out ++ serverReaches (drop i (t .servers)) ≡ serverReaches (t .servers))
+    (length out ≡ entries) × (i ≤ entries) × (take i (inTicks out) ++ serverReaches (drop i (t .servers)) ≡ serverReaches (t .servers))
 
 abbrev μ-loop : tie.MeasureT-loop
 μ-loop t out₀ i₀ out i = entries - i
@@ -32,8 +34,8 @@ element-copy-out-s c = omega arith
 mul-out : tie.Need-mul-out Inv-loop μ-loop
 mul-out c = omega arith
 
-array-write-out : tie.Need-array-write-out Inv-loop μ-loop
-array-write-out c = omega arith
+array-set-from-out : tie.Need-array-set-from-out Inv-loop μ-loop
+array-set-from-out c = omega arith
 
 add-i : tie.Need-add-i Inv-loop μ-loop
 add-i c = omega arith
@@ -48,15 +50,15 @@ loop-again c =
     let k = l .loop in
     let h = full (l .before) in
     let e = rw (drop-step ss (k .i) pastServer (omega arith)) at (k .inv .2) in
-    let more = built-more (k .out) (k .i) (getD ss (k .i) pastServer .period .0) (serverReaches (drop (k .i + 1) ss)) (serverReaches ss) (omega arith) e in
-    (length-set (k .out) (k .i) _ ∙ k .inv .0, omega arith, more)
+    let more = built-more (inTicks (k .out)) (k .i) (getD ss (k .i) pastServer .period .0) (serverReaches (drop (k .i + 1) ss)) (serverReaches ss) (omega (arith, ticks-length (k .out))) e in
+    (length-set (k .out) (k .i) _ ∙ k .inv .0, omega arith, rw ticks-set more)
 
 returns : tie.Need-returns Inv-loop μ-loop
 returns c =
     let l = c .before in
     let ss = l .before .args .t1 .servers in
     let h = full (l .before) in
-    built-end (l .loop .out) (l .loop .i) (serverReaches (drop (l .loop .i) ss)) (serverReaches ss) (omega arith) (ap serverReaches (drop-of-length-le ss {i = l .loop .i} (omega arith))) (l .loop .inv .2)
+    built-end (inTicks (l .loop .out)) (l .loop .i) (serverReaches (drop (l .loop .i) ss)) (serverReaches ss) (omega (arith, ticks-length (l .loop .out))) (ap serverReaches (drop-of-length-le ss {i = l .loop .i} (omega arith))) (l .loop .inv .2)
 
 pub server-reaches-spec : {M : Type 1} → statement M
 server-reaches-spec =
@@ -68,7 +70,7 @@ server-reaches-spec =
     mul-s
     element-copy-out-s
     mul-out
-    array-write-out
+    array-set-from-out
     add-i
     loop-less
     loop-again

@@ -5,6 +5,8 @@ use Prim.Native.Nat.{_+_, _-_, _≤_}
 use native.Mathlib.Omega.{arith}
 use borrow.Author.Needs.{needs}
 use lib.ListN.{length, getD, drop, take, length-map, length-set, drop-of-length-le}
+use Rattle.queue.specs.Holds.{inTicks}
+use Rattle.queue.proofs.Holding.{ticks-length, ticks-set}
 use Rattle.table.specs.Limits.{entries}
 use Rattle.table.specs.Table.{zeroTask}
 use Rattle.scheduler.specs.Sound.{releaseReach, taskReaches}
@@ -14,7 +16,7 @@ use Rattle.scheduler.proofs.task_reaches.Tie as tie
 
 abbrev Inv-loop : tie.InvT-loop
 Inv-loop s out₀ j₀ out j =
-    (length out ≡ entries) × (j ≤ entries) × (take j out ++ taskReaches (drop j (s .tasks)) ≡ taskReaches (s .tasks))
+    (length out ≡ entries) × (j ≤ entries) × (take j (inTicks out) ++ taskReaches (drop j (s .tasks)) ≡ taskReaches (s .tasks))
 
 abbrev μ-loop : tie.MeasureT-loop
 μ-loop s out₀ j₀ out j = entries - j
@@ -37,8 +39,8 @@ reach-requires c κs = search needs
 mul-out : tie.Need-mul-out Inv-loop μ-loop
 mul-out c = omega arith
 
-array-write-out : tie.Need-array-write-out Inv-loop μ-loop
-array-write-out c = omega arith
+array-set-from-out : tie.Need-array-set-from-out Inv-loop μ-loop
+array-set-from-out c = omega arith
 
 add-j : tie.Need-add-j Inv-loop μ-loop
 add-j c = omega arith
@@ -53,16 +55,15 @@ loop-again c =
     let k = l .loop in
     let h = full (l .before) in
     let e = rw (drop-step ts (k .j) zeroTask (omega arith)) at (k .inv .2) in
-    let more = built-more (k .out) (k .j) (releaseReach (getD ts (k .j) zeroTask .release)) (taskReaches (drop (k .j + 1) ts)) (taskReaches ts) (omega arith) e in
-    rw (c .reach .ensures)
-    (length-set (k .out) (k .j) _ ∙ k .inv .0, omega arith, more)
+    let more = built-more (inTicks (k .out)) (k .j) (releaseReach (getD ts (k .j) zeroTask .release)) (taskReaches (drop (k .j + 1) ts)) (taskReaches ts) (omega (arith, ticks-length (k .out))) e in
+    (length-set (k .out) (k .j) _ ∙ k .inv .0, omega arith, rw (ticks-set, c .reach .ensures) more)
 
 returns : tie.Need-returns Inv-loop μ-loop
 returns c =
     let l = c .before in
     let ts = l .before .args .t1 .tasks in
     let h = full (l .before) in
-    built-end (l .loop .out) (l .loop .j) (taskReaches (drop (l .loop .j) ts)) (taskReaches ts) (omega arith) (ap taskReaches (drop-of-length-le ts {i = l .loop .j} (omega arith))) (l .loop .inv .2)
+    built-end (inTicks (l .loop .out)) (l .loop .j) (taskReaches (drop (l .loop .j) ts)) (taskReaches ts) (omega (arith, ticks-length (l .loop .out))) (ap taskReaches (drop-of-length-le ts {i = l .loop .j} (omega arith))) (l .loop .inv .2)
 
 pub task-reaches-spec : {M : Type 1} → statement M
 task-reaches-spec =
@@ -75,7 +76,7 @@ task-reaches-spec =
     element-copy-out-t
     reach-requires
     mul-out
-    array-write-out
+    array-set-from-out
     add-j
     loop-less
     loop-again

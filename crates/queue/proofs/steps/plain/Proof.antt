@@ -1,4 +1,4 @@
--- `queue::plain` meets its contract: each answer is the definition at the cell that stands there, or at none.
+-- `queue::steps::plain` meets its contract: each answer is the definition at the cell that stands there, or at none.
 use mathlib.Core.Path.{_≡_}
 use mathlib.Core.List.{_∷_}
 use Prim.Native.Nat.{_+_, _≤_}
@@ -9,8 +9,8 @@ use lib.ListN.{drop, getD, length-map}
 use Rattle.queue.specs.Limits.{cellCount}
 use Rattle.queue.specs.Row.{cell, cellsOf}
 use Rattle.queue.proofs.Cells.{cells-step, cells-end}
-use Rattle.queue.proofs.plain.Statement.{statement}
-use Rattle.queue.proofs.plain.Tie as tie
+use Rattle.queue.proofs.steps.plain.Statement.{statement}
+use Rattle.queue.proofs.steps.plain.Tie as tie
 
 fits : (c : tie.Else1) → c .before .args .t1 .len ≤ cellCount
 fits c = c .before .pre (c .if1 .left)

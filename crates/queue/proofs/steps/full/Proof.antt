@@ -1,4 +1,4 @@
--- `queue::full` meets its contract: past full fillers the question is the same of the cells that are left.
+-- `queue::steps::full` meets its contract: past full fillers the question is the same of the cells that are left.
 use mathlib.Core.Path.{_≡_, refl, _∙_}
 use mathlib.Core.List.{[], _∷_}
 use Prim.Native.Nat.{_+_, _-_}
@@ -9,8 +9,8 @@ use Rattle.queue.specs.Limits.{maxGap}
 use Rattle.queue.specs.Row.{cell, cellsOf}
 use Rattle.queue.specs.Moves.{fullb}
 use Rattle.queue.proofs.Cells.{cells-step, cells-end}
-use Rattle.queue.proofs.full.Statement.{statement}
-use Rattle.queue.proofs.full.Tie as tie
+use Rattle.queue.proofs.steps.full.Statement.{statement}
+use Rattle.queue.proofs.steps.full.Tie as tie
 
 abbrev Inv-loop : tie.InvT-loop
 Inv-loop from q n i₀ i = fullb maxGap (drop from (cellsOf q)) ≡ fullb maxGap (drop i (cellsOf q))

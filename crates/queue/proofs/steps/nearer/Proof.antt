@@ -1,9 +1,9 @@
--- `queue::nearer` meets its contract: its store is the definition's first cell, and a gap of 0 stays.
+-- `queue::steps::nearer` meets its contract: its store is the definition's first cell, and a gap of 0 stays.
 use borrow.Author.Needs.{needs}
 use Rattle.queue.specs.Steps.{nearerStep}
 use Rattle.queue.proofs.Ticking.{less-set, less-still}
-use Rattle.queue.proofs.nearer.Statement.{statement}
-use Rattle.queue.proofs.nearer.Tie as tie
+use Rattle.queue.proofs.steps.nearer.Statement.{statement}
+use Rattle.queue.proofs.steps.nearer.Tie as tie
 
 element-copy-out-c : tie.Need-element-copy-out-c
 element-copy-out-c c = search needs

@@ -1,11 +1,11 @@
--- `queue::ticked` meets its contract: each answer is the definition at the tests that led there.
+-- `queue::steps::ticked` meets its contract: each answer is the definition at the tests that led there.
 use mathlib.Core.Path.{_∙_, sym}
 use borrow.Author.Needs.{needs}
 use borrow.Author.Tests.{eq-eqb, ne-eqb}
 use Rattle.queue.specs.Limits.{filler}
 use Rattle.queue.specs.Steps.{firstCell, tickStep}
-use Rattle.queue.proofs.ticked.Statement.{statement}
-use Rattle.queue.proofs.ticked.Tie as tie
+use Rattle.queue.proofs.steps.ticked.Statement.{statement}
+use Rattle.queue.proofs.steps.ticked.Tie as tie
 
 returns : tie.Need-returns
 unfolding tickStep

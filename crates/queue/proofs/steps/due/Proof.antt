@@ -1,10 +1,10 @@
--- `queue::due` meets its contract: each answer is the definition at the tests that led there.
+-- `queue::steps::due` meets its contract: each answer is the definition at the tests that led there.
 use borrow.Author.Needs.{needs}
 use borrow.Author.Tests.{lt-ltb, le-ltb}
 use native.Mathlib.Omega.{arith}
 use Rattle.queue.specs.Steps.{dueStep}
-use Rattle.queue.proofs.due.Statement.{statement}
-use Rattle.queue.proofs.due.Tie as tie
+use Rattle.queue.proofs.steps.due.Statement.{statement}
+use Rattle.queue.proofs.steps.due.Tie as tie
 
 returns : tie.Need-returns
 unfolding dueStep

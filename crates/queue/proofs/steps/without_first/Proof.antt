@@ -1,4 +1,4 @@
--- `queue::without_first` meets its contract: at turn i the first i - 1 cells have been moved one place down, and the last store clears the place that is left.
+-- `queue::steps::without_first` meets its contract: at turn i the first i - 1 cells have been moved one place down, and the last store clears the place that is left.
 use mathlib.Core.Path.{_≡_, refl}
 use Prim.Native.Nat.{_+_, _-_, _≤_, _<_}
 use native.Mathlib.Omega.{arith}
@@ -11,8 +11,8 @@ use Rattle.queue.specs.Row.{cell, cellsOf}
 use Rattle.queue.specs.Steps.{restStep}
 use Rattle.queue.proofs.Cells.{end-some, end-none, rest-cells}
 use Rattle.queue.proofs.Ticking.{down, down-read, down-step, down-store}
-use Rattle.queue.proofs.without_first.Statement.{statement}
-use Rattle.queue.proofs.without_first.Tie as tie
+use Rattle.queue.proofs.steps.without_first.Statement.{statement}
+use Rattle.queue.proofs.steps.without_first.Tie as tie
 
 abbrev Inv-loop : tie.InvT-loop
 Inv-loop n next₀ i₀ next i = (1 ≤ i) × (i ≤ n) × (next .cells ≡ down (i - 1) (next₀ .cells))

@@ -1,9 +1,9 @@
--- `queue::falls` meets its contract: it reads the first gap.
+-- `queue::steps::falls` meets its contract: it reads the first gap.
 use mathlib.Core.Path.{refl}
 use borrow.Author.Needs.{needs}
 use Rattle.queue.specs.Steps.{fallsStep}
-use Rattle.queue.proofs.falls.Statement.{statement}
-use Rattle.queue.proofs.falls.Tie as tie
+use Rattle.queue.proofs.steps.falls.Statement.{statement}
+use Rattle.queue.proofs.steps.falls.Tie as tie
 
 element-copy-out-c : tie.Need-element-copy-out-c
 element-copy-out-c c = search needs

@@ -1,8 +1,8 @@
--- `queue::row_end` meets its contract: each answer is the definition at the test that led there.
+-- `queue::steps::row_end` meets its contract: each answer is the definition at the test that led there.
 use borrow.Author.Tests.{le-leb, lt-leb}
 use Rattle.queue.specs.Limits.{cellCount}
-use Rattle.queue.proofs.row_end.Statement.{statement}
-use Rattle.queue.proofs.row_end.Tie as tie
+use Rattle.queue.proofs.steps.row_end.Statement.{statement}
+use Rattle.queue.proofs.steps.row_end.Tie as tie
 
 returns : tie.Need-returns
 returns c = rw (lt-leb (c .before .args .q .len) cellCount (c .if1 .taken))

@@ -1,8 +1,8 @@
--- `queue::is_empty` meets its contract: it reads the count.
+-- `queue::steps::is_empty` meets its contract: it reads the count.
 use mathlib.Core.Path.{refl}
 use Rattle.queue.specs.Steps.{emptyStep}
-use Rattle.queue.proofs.is_empty.Statement.{statement}
-use Rattle.queue.proofs.is_empty.Tie as tie
+use Rattle.queue.proofs.steps.is_empty.Statement.{statement}
+use Rattle.queue.proofs.steps.is_empty.Tie as tie
 
 returns : tie.Need-returns
 unfolding emptyStep

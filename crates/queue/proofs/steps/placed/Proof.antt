@@ -1,4 +1,4 @@
--- `queue::placed` meets its contract: by `Passed` and the next event the row is the cells up to the event before, the new event's, and those behind it
+-- `queue::steps::placed` meets its contract: by `Passed` and the next event the row is the cells up to the event before, the new event's, and those behind it
 -- counted from it; the code counts them first, and then stores the last first, so that each run is stored before the one that is there.
 use mathlib.Core.Path.{_≡_, sym, ap, _∙_}
 use mathlib.Core.Bool.{false}
@@ -20,8 +20,8 @@ use Rattle.queue.specs.declared.Chain.{Chain}
 use Rattle.queue.proofs.Cells.{cells-length}
 use Rattle.queue.proofs.Moving.{sets-before, sets-row, links-length, chain-cells, to-cells}
 use Rattle.queue.proofs.Placing.{Following, following}
-use Rattle.queue.proofs.placed.Statement.{statement}
-use Rattle.queue.proofs.placed.Tie as tie
+use Rattle.queue.proofs.steps.placed.Statement.{statement}
+use Rattle.queue.proofs.steps.placed.Tie as tie
 
 full : (c : tie.Else1) → length (c .before .before .args .q .cells) ≡ cellCount
 full c = rw length-map at (c .before .before .good .0 .1 .1 .0 .1 .0 .1)

@@ -1,4 +1,4 @@
--- `queue::again` meets its contract: the cells that the event passes are moved one place down, and at a plain place the row is then what taking it out and
+-- `queue::steps::again` meets its contract: the cells that the event passes are moved one place down, and at a plain place the row is then what taking it out and
 -- putting it in gives (proofs/Passing.antt). Where the place is not plain, these two are called.
 use mathlib.Core.Path.{_≡_, refl, sym, ap, _∙_}
 use mathlib.Core.Logic.{⊎-elim}
@@ -19,8 +19,8 @@ use Rattle.queue.specs.declared.Queue.{Queue}
 use Rattle.queue.proofs.Cells.{end-some, cells-end}
 use Rattle.queue.proofs.Ticking.{down, down-read, down-step}
 use Rattle.queue.proofs.Passing.{Moved, moved-none, moved-more, chosen, again-last, again-within}
-use Rattle.queue.proofs.again.Statement.{statement}
-use Rattle.queue.proofs.again.Tie as tie
+use Rattle.queue.proofs.steps.again.Statement.{statement}
+use Rattle.queue.proofs.steps.again.Tie as tie
 
 abbrev Inv-loop : tie.InvT-loop
 Inv-loop delay q n d f next₀ filler₀ at₀ i₀ next filler at i =

@@ -1,10 +1,11 @@
 -- Every history of calls from a sound state is a row of ticks that do what the scheduler's laws say. Assumes nothing.
 use mathlib.Core.Path.{_≡_, refl, ap, _∙_}
 use mathlib.Core.Bool.{Bool, true}
-use mathlib.Core.List.{List, [], _∷_}
+use mathlib.Core.List.{List, [], _∷_, _++_}
 use Prim.Native.Nat.{ℕ, zero, suc, _+_, _-_, _<_, min}
+use native.Mathlib.Nat.{zero-add, suc-add}
 use native.Mathlib.Omega.{arith}
-use lib.ListN.{length, take, drop, getD, length-take, length-drop}
+use lib.ListN.{length, take, drop, getD, replicate, length-take, length-drop}
 use lib.Seq.{getD-take, getD-drop}
 use Rattle.queue.specs.Limits.{longest}
 use Rattle.queue.specs.declared.Queue.{Queue}
@@ -18,18 +19,21 @@ use Rattle.scheduler.specs.Sound.{stateb}
 use Rattle.scheduler.specs.Choice.{choiceOf, servesb}
 use Rattle.scheduler.specs.Arrive.{arriveOf}
 use Rattle.scheduler.specs.Tick.{stateAfter, tickOf}
+use Rattle.scheduler.specs.Run.{ticksIn}
 use Rattle.scheduler.specs.Fresh.{freshState, freshOf}
 use Rattle.scheduler.specs.Meaning.{SizedState, budgetAt, refillAway}
 use Rattle.scheduler.specs.declared.State.{State}
 use Rattle.scheduler.specs.declared.Choice.{Choice}
-use Rattle.scheduler.proofs.TickSound.{tick-sound, tick-accepts, tick-sound-accepted, arrive-sound}
+use Rattle.scheduler.specs.declared.Choice.the-variants.{Idle}
+use Rattle.scheduler.proofs.TickSound.{tick-sound, tick-accepts, arrive-sound}
 use Rattle.scheduler.proofs.FreshSound.{fresh-sound, fresh-made, fresh-budget, fresh-refill}
 use Rattle.scheduler.proofs.KeptSizes.{tick-sized, arrive-sized, fresh-sized}
 use Rattle.scheduler.proofs.FirstReady.{chosen-first}
 use Rattle.scheduler.proofs.Laws.{tick-spent, tick-filled, arrive-budget, arrive-refills, arrive-table, tick-table}
-use Rattle.assurance.specs.Demand3.{periodIn, budgetIn, sumBelow, Call, tick, arrival, Seen, seen, ticksOf, num, tally}
+use Rattle.assurance.specs.Demand3.{periodIn, budgetIn, sumBelow, Call, tick, run, arrival, Seen, ticksOf, ticksAsked, num, tally}
 use Rattle.assurance.proofs.Sum.{sum-same, sum-front}
 use Rattle.assurance.proofs.Ticks.{OneTick, Full, Run}
+use Rattle.assurance.proofs.RunTicks.{seen-tick, run-ticks}
 
 -- sound, with its arrays' lengths, and of the table t
 pub record SoundOf (t : Table) (s : State) : Type 0 where
@@ -37,27 +41,34 @@ pub record SoundOf (t : Table) (s : State) : Type 0 where
   pub sized : SizedState s
   pub sound : stateb s ≡ true
 
--- how many ticks a history from a sound state has: all are accepted
-unfoldable pub ticks : List Call → ℕ
-ticks [] = 0
-ticks (tick ∷ cs) = suc (ticks cs)
-ticks (arrival i j ∷ cs) = ticks cs
-
--- the state before tick x of a history, its ticks counted from 0; the last state, where it has no more
-unfoldable pub before : State → List Call → ℕ → State
-before s [] x = s
-before s (tick ∷ cs) zero = s
-before s (tick ∷ cs) (suc x) = before (tickOf s .state) cs x
-before s (arrival i j ∷ cs) x = before (arriveOf s i j .state) cs x
-
 -- s and w show the same budgets and refills
 abbrev Same : State → State → Type 0
 Same s w = (i : ℕ) → (budgetAt w i ≡ budgetAt s i) × (refillAway w i ≡ refillAway s i)
 
-count-sum : (p : Seen → Bool) (d : Seen) (xs : List Seen) → tally p xs ≡ sumBelow (λ x. num (p (getD xs x d))) (length xs)
-unfolding tally sumBelow
-count-sum p d [] = refl
-count-sum p d (x ∷ xs) = omega (arith, count-sum p d xs, sum-front (λ y. num (p (getD (x ∷ xs) y d))) (length xs))
+then : (s v w : State) → Same s v → Same v w → Same s w
+then s v w p q i = (q i .0 ∙ p i .0, q i .1 ∙ p i .1)
+
+-- A ROW of ticks from the state s to the state e: each does what the laws say, and between two of them no budget and no refill changes
+abbrev Row : Table → State → List Seen → State → Type 0
+Row t s [] e = Same s e
+Row t s (x ∷ xs) e = Same s (x .state) × (w : State) × OneTick t (x .state) (x .choice) w × Row t w xs e
+
+-- n ticks in a row
+pub record Rowed (t : Table) (s : State) (xs : List Seen) (n : ℕ) : Type 0 where
+  pub end : State
+  pub row : Row t s xs end
+  pub number : length xs ≡ n
+
+-- tick x of a row that ends at e: behind the last one, that state
+
+abbrev pub tickAt : State → List Seen → ℕ → Seen
+tickAt e xs x = getD xs x record { state = e; choice = Idle }
+
+abbrev pub stateAt : State → List Seen → ℕ → State
+stateAt e xs x = tickAt e xs x .state
+
+abbrev pub choiceAt : State → List Seen → ℕ → Choice
+choiceAt e xs x = tickAt e xs x .choice
 
 module _ (t : Table) where
   -- ONE CALL
@@ -91,82 +102,84 @@ module _ (t : Table) where
 
   -- A ROW OF CALLS
 
-  same-before : (s : State) (cs : List Call) → Same s (before s cs 0)
-  unfolding before
-  same-before s [] i = (refl, refl)
-  same-before s (tick ∷ cs) i = (refl, refl)
-  same-before s (arrival a b ∷ cs) i =
-      let p = same-arrival s a b i in
-      let q = same-before (arriveOf s a b .state) cs i in
-      (q .0 ∙ p .0, q .1 ∙ p .1)
+  -- the calls cs, from every sound state
+  abbrev Follows : List Call → Type 0
+  Follows cs = (s : State) → SoundOf t s → Rowed t s (ticksOf s cs) (ticksAsked cs)
 
-  then-same : {s w w′ : State} {c : Choice} → OneTick t s c w → Same w w′ → OneTick t s c w′
-  then-same o e = record {
-    first = o .first;
-    spent = λ i l h. let p = o .spent i l h in let q = e i in (q .0 ∙ p .0, q .1 ∙ p .1);
-    filled = λ i l h. let p = o .filled i l h in let q = e i in (q .0 ∙ p .0, q .1 ∙ p .1);
+  row-from : (s v e : State) (xs : List Seen) → Same s v → Row t v xs e → Row t s xs e
+  row-from s v e [] p r = then s v e p r
+  row-from s v e (x ∷ xs) p r = (then s v (x .state) p (r .0), r .1, r .2, r .3)
+
+  and-tick : (cs : List Call) (n : ℕ) (s : State) → SoundOf t s → Rowed t (tickOf s .state) (ticksOf (tickOf s .state) cs) n → Rowed t s (ticksOf s (tick ∷ cs)) (suc n)
+  and-tick cs n s h r = rw (seen-tick s (h .sound) cs) record {
+    end = r .end;
+    row = (λ i. (refl, refl), tickOf s .state, tick-law s h, r .row);
+    number = ap suc (r .number);
   }
 
-  tick-at : (s : State) → SoundOf t s → (cs : List Call) (x : ℕ) → x < ticks cs → OneTick t (before s cs x) (tickOf (before s cs x) .choice) (before s cs (suc x))
-  unfolding before ticks
-  tick-at s h [] x l = absurd (omega arith)
-  tick-at s h (tick ∷ cs) zero l = then-same (tick-law s h) (same-before (tickOf s .state) cs)
-  tick-at s h (tick ∷ cs) (suc x) l = tick-at (tickOf s .state) (sound-tick s h) cs x (omega arith)
-  tick-at s h (arrival i j ∷ cs) x l = tick-at (arriveOf s i j .state) (sound-arrival s i j h) cs x l
+  and-ticks : (cs : List Call) → Follows cs → (n : ℕ) (s : State) → SoundOf t s → Rowed t s (ticksOf s (replicate n tick ++ cs)) (n + ticksAsked cs)
+  and-ticks cs f zero s h = rw zero-add (f s h)
+  and-ticks cs f (suc n) s h = rw suc-add (and-tick (replicate n tick ++ cs) (n + ticksAsked cs) s h (and-ticks cs f n (tickOf s .state) (sound-tick s h)))
 
-  -- what is seen at its ticks
+  pub history : (cs : List Call) → Follows cs
+  unfolding ticksOf ticksAsked
+  history [] s h = record { end = s; row = λ i. (refl, refl); number = refl }
+  history (tick ∷ cs) s h = and-tick cs (ticksAsked cs) s h (history cs (tickOf s .state) (sound-tick s h))
+  history (run k ∷ cs) s h = rw (run-ticks s k cs) (and-ticks cs (λ v g. history cs v g) (ticksIn k) s h)
+  history (arrival i j ∷ cs) s h =
+      let v = arriveOf s i j .state in
+      let r = history cs v (sound-arrival s i j h) in
+      record { end = r .end; row = row-from s v (r .end) (ticksOf v cs) (same-arrival s i j) (r .row); number = r .number }
 
-  seen-tick : (s : State) → SoundOf t s → (cs : List Call) → ticksOf s (tick ∷ cs) ≡ seen s ∷ ticksOf (tickOf s .state) cs
-  unfolding ticksOf
-  seen-tick s h cs = rw (tick-sound-accepted s .1 (h .sound))
+  -- ITS TICKS
 
-  pub seen-length : (s : State) → SoundOf t s → (cs : List Call) → length (ticksOf s cs) ≡ ticks cs
-  unfolding ticksOf ticks
-  seen-length s h [] = refl
-  seen-length s h (tick ∷ cs) = ap length (seen-tick s h cs) ∙ ap suc (seen-length (tickOf s .state) (sound-tick s h) cs)
-  seen-length s h (arrival i j ∷ cs) = seen-length (arriveOf s i j .state) (sound-arrival s i j h) cs
+  module _ (e : State) where
+    row-first : (s : State) (xs : List Seen) → Row t s xs e → Same s (stateAt e xs 0)
+    row-first s [] r = r
+    row-first s (x ∷ xs) r = r .0
 
-  seen-at : (d : Seen) (s : State) → SoundOf t s → (cs : List Call) (x : ℕ) → x < ticks cs → getD (ticksOf s cs) x d ≡ seen (before s cs x)
-  unfolding ticksOf ticks before
-  seen-at d s h [] x l = absurd (omega arith)
-  seen-at d s h (tick ∷ cs) zero l = ap (λ (xs : List Seen). getD xs 0 d) (seen-tick s h cs)
-  seen-at d s h (tick ∷ cs) (suc x) l =
-      ap (λ (xs : List Seen). getD xs (suc x) d) (seen-tick s h cs) ∙ seen-at d (tickOf s .state) (sound-tick s h) cs x (omega arith)
-  seen-at d s h (arrival i j ∷ cs) x l = seen-at d (arriveOf s i j .state) (sound-arrival s i j h) cs x l
+    then-same : {s w w′ : State} {c : Choice} → OneTick t s c w → Same w w′ → OneTick t s c w′
+    then-same o q = record {
+      first = o .first;
+      spent = λ i l h. let p = o .spent i l h in (q i .0 ∙ p .0, q i .1 ∙ p .1);
+      filled = λ i l h. let p = o .filled i l h in (q i .0 ∙ p .0, q i .1 ∙ p .1);
+    }
 
-  -- A PART of the ticks of a history: n ticks from tick b on, or as many as there are
+    row-tick : (s : State) (xs : List Seen) → Row t s xs e → (x : ℕ) → x < length xs → OneTick t (stateAt e xs x) (choiceAt e xs x) (stateAt e xs (suc x))
+    row-tick s [] r x l = absurd (omega arith)
+    row-tick s (y ∷ ys) r zero l = then-same (r .2) (row-first (r .1) ys (r .3))
+    row-tick s (y ∷ ys) r (suc x) l = row-tick (r .1) ys (r .3) x (omega arith)
 
-  module _ (s : State) (h : SoundOf t s) (cs : List Call) (b n : ℕ) where
-    abbrev part : List Seen
-    part = take n (drop b (ticksOf s cs))
+-- A PART of a row: n ticks from tick b on, or as many as there are
 
-    pub part-length : length part ≡ min n (ticks cs - b)
-    part-length = simp (length-take, length-drop, seen-length s h cs)
+count-sum : (p : Seen → Bool) (d : Seen) (xs : List Seen) → tally p xs ≡ sumBelow (λ x. num (p (getD xs x d))) (length xs)
+unfolding tally sumBelow
+count-sum p d [] = refl
+count-sum p d (x ∷ xs) = omega (arith, count-sum p d xs, sum-front (λ y. num (p (getD (x ∷ xs) y d))) (length xs))
 
-    pub part-count : (p : Seen → Bool) → tally p part ≡ sumBelow (λ x. num (p (seen (before s cs (b + x))))) (length part)
-    part-count p = count-sum p (seen s) part ∙ sum-same _ _ (length part) (λ x l. ap (λ (y : Seen). num (p y)) (at x l))
-      where
-        at : (x : ℕ) → x < length part → getD part x (seen s) ≡ seen (before s cs (b + x))
-        at x l =
-            let e = part-length in
-            let m : x < n = omega arith in
-            rw (getD-take n (drop b (ticksOf s cs)) x (seen s) m, getD-drop) (seen-at (seen s) s h cs (b + x) (omega arith))
+module _ (e : State) (xs : List Seen) (b n : ℕ) where
+  abbrev part : List Seen
+  part = take n (drop b xs)
+
+  pub part-length : length part ≡ min n (length xs - b)
+  part-length = simp (length-take, length-drop)
+
+  pub part-count : (p : Seen → Bool) → tally p part ≡ sumBelow (λ x. num (p (tickAt e xs (b + x)))) (length part)
+  part-count p = count-sum p d part ∙ sum-same _ _ (length part) (λ x l. ap (λ (y : Seen). num (p y)) (at x l))
+    where
+      d : Seen
+      d = record { state = e; choice = Idle }
+
+      at : (x : ℕ) → x < length part → getD part x d ≡ getD xs (b + x) d
+      at x l = let m : x < n = omega (arith, part-length) in rw (getD-take n (drop b xs) x d m, getD-drop)
 
 -- FROM A FRESH SETUP
-
--- the state before tick x, and whom it serves
-
-abbrev pub stateAt : Table → List Call → ℕ → State
-stateAt t cs x = before (freshOf t .state) cs x
-
-abbrev pub choiceAt : Table → List Call → ℕ → Choice
-choiceAt t cs x = tickOf (stateAt t cs x) .choice
 
 module _ (t : Table) (z : Sized t) (h : tableb longest mostWork t ≡ true) where
   pub period-low : (i : ℕ) → i < t .count → 0 < periodIn t i
   period-low i l = table-sound longest mostWork t z .0 h .used i l .period .low
 
-  pub start : SoundOf t (freshOf t .state)
+  start : SoundOf t (freshOf t .state)
   unfolding freshState
   start = rw (fresh-made t h) record { table = refl; sized = fresh-sized t z; sound = fresh-sound t h }
 
@@ -175,15 +188,26 @@ module _ (t : Table) (z : Sized t) (h : tableb longest mostWork t ≡ true) wher
   start-full i = rw (fresh-made t h) (fresh-budget t h i, fresh-refill t h i)
 
   module _ (cs : List Call) where
-    pub first-full : (i : ℕ) → Full t (stateAt t cs 0) i
+    -- its ticks, and the state at its end
+
+    pub fresh-row : Rowed t (freshOf t .state) (ticksOf (freshOf t .state) cs) (ticksAsked cs)
+    fresh-row = history t cs (freshOf t .state) start
+
+    abbrev pub seenAll : List Seen
+    seenAll = ticksOf (freshOf t .state) cs
+
+    abbrev pub endAll : State
+    endAll = fresh-row .end
+
+    pub first-full : (i : ℕ) → Full t (stateAt endAll seenAll 0) i
     first-full i =
         let p = start-full i in
-        let q = same-before t (freshOf t .state) cs i in
+        let q = row-first t endAll (freshOf t .state) seenAll (fresh-row .row) i in
         (q .0 ∙ p .0, q .1 ∙ p .1)
 
-    pub history : Run t (ticks cs) (stateAt t cs) (choiceAt t cs)
-    history = record {
+    pub all-run : Run t (length seenAll) (stateAt endAll seenAll) (choiceAt endAll seenAll)
+    all-run = record {
       periods = period-low;
       start = λ i l. omega (arith, period-low i l, first-full i);
-      tick = tick-at t (freshOf t .state) start cs;
+      tick = row-tick t endAll (freshOf t .state) seenAll (fresh-row .row);
     }

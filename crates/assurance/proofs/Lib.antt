@@ -1,7 +1,9 @@
 pub mod Sum
 pub mod Account
 pub mod Ticks
+pub mod RunTicks
 pub mod History
 pub mod Assured
+pub mod FromFile
 pub mod Refilled
 pub mod Computed

@@ -1,14 +1,77 @@
--- "So a budget that ends on the tick of its refill is emptied first and then full." Assumes nothing.
-use mathlib.Core.Path.{_≡_}
-use mathlib.Core.Bool.{true}
+-- "So a budget that ends on the tick of its refill is emptied first and then full", and the next tick runs it, if it wants that and is the highest that can.
+-- Assumes nothing.
+use mathlib.Core.Path.{_≡_, refl, ap, _∙_}
+use mathlib.Core.Bool.{true, false}
+use mathlib.Core.List.{List, [], _∷_}
 use Prim.Native.Nat.{ℕ, _<_}
+use native.Mathlib.Decide.{decLt}
+use native.Mathlib.Omega.{arith}
+use lib.Dec.{eqb}
+use borrow.Author.Tests.{lt-ltb, eq-eqb}
+use Rattle.refusal.proofs.Small.{contrary}
+use Rattle.queue.specs.Limits.{longest}
+use Rattle.table.specs.Limits.{mostWork}
+use Rattle.table.proofs.Soundness.{table-sound}
 use Rattle.scheduler.specs.Sound.{stateb}
+use Rattle.scheduler.specs.Choice.{choiceOf, servesb}
+use Rattle.scheduler.specs.Arrive.{arriveOf}
 use Rattle.scheduler.specs.Tick.{fullAt, tickOf}
-use Rattle.scheduler.specs.Meaning.{SizedState, budgetAt, refillAway}
+use Rattle.scheduler.specs.Meaning.{SizedState, readyAt, budgetAt, refillAway, Highest, Chosen}
 use Rattle.scheduler.specs.declared.State.{State}
-use Rattle.scheduler.proofs.TickSound.{tick-accepts}
-use Rattle.scheduler.proofs.Laws.{tick-filled}
+use Rattle.scheduler.specs.declared.Choice.{Choice}
+use Rattle.scheduler.specs.declared.Choice.the-variants.{Idle, Burning, Running}
+use Rattle.scheduler.proofs.TickSound.{tick-accepts, ticked-sound, arrive-sound, state-parts}
+use Rattle.scheduler.proofs.KeptSizes.{tick-sized, arrive-sized}
+use Rattle.scheduler.proofs.FirstReady.{chosen-first}
+use Rattle.scheduler.proofs.Laws.{tick-filled, arrive-budget}
+use Rattle.assurance.specs.Demand3.{wantsAt}
 
 -- on every sound state, whatever is left of the budget and whomever the tick serves: a budget of 1 that this tick takes is full on the next one too
 pub refilled-full : (s : State) → SizedState s → stateb s ≡ true → (i : ℕ) → i < s .table .count → refillAway s i ≡ 1 → budgetAt (tickOf s .state) i ≡ fullAt s i
 refilled-full s z h i l e = rw (tick-accepts s h) (tick-filled s z h i l e .budget)
+
+-- AND THE NEXT TICK
+
+-- arrivals, each of a server and a task, one after the other
+abbrev pub arrived : State → List (ℕ × ℕ) → State
+arrived s [] = s
+arrived s (a ∷ rest) = arrived (arriveOf s (a .0) (a .1) .state) rest
+
+-- they keep a state sound, and every budget
+module _ (i : ℕ) where
+  arrived-sound : (s : State) (between : List (ℕ × ℕ)) → SizedState s → stateb s ≡ true
+      → let next = arrived s between in SizedState next × (stateb next ≡ true) × (budgetAt next i ≡ budgetAt s i)
+  arrived-sound s [] z h = (z, h, refl)
+  arrived-sound s (a ∷ rest) z h =
+      let r = arrived-sound (arriveOf s (a .0) (a .1) .state) rest (arrive-sized s (a .0) (a .1) z) (arrive-sound s h (a .0) (a .1)) in
+      (r .0, r .1, r .2 ∙ arrive-budget s (a .0) (a .1) i)
+
+-- the highest that is ready is the one that is served
+serves-highest : (s : State) (i : ℕ) → readyAt s i ≡ true → ((j : ℕ) → j < i → readyAt s j ≡ false) → (c : Choice) → Chosen s c → servesb c i ≡ true
+serves-highest s i r above = go
+  where
+    same : (k : ℕ) → Highest s k → eqb k i ≡ true
+    same k h = by (decLt k i) (decLt i k)
+      where
+        by : Dec (k < i) → Dec (i < k) → eqb k i ≡ true
+        by (yes l) _ = contrary (h .ready) (above k l)
+        by (no l) (yes m) = contrary r (h .above i m)
+        by (no l) (no m) = eq-eqb k i (omega arith)
+
+    go : (c : Choice) → Chosen s c → servesb c i ≡ true
+    go Idle f = contrary r (f i)
+    go (Burning k) f = same k (f .0)
+    go (Running k j) f = same k (f .0)
+
+-- also if arrivals come between the two ticks
+pub refilled-runs : (s : State) → SizedState s → stateb s ≡ true → (i : ℕ) → i < s .table .count → refillAway s i ≡ 1 → (between : List (ℕ × ℕ))
+    → let next = arrived (tickOf s .state) between in
+    wantsAt next i ≡ true → ((j : ℕ) → j < i → readyAt next j ≡ false) → servesb (tickOf next .choice) i ≡ true
+refilled-runs s z h i l e between w above =
+    let known = table-sound longest mostWork (s .table) (z .table) .0 (state-parts s .0 h .table) in
+    let sized : SizedState (tickOf s .state) = rw (tick-accepts s h) (tick-sized s z) in
+    let r = arrived-sound i (tickOf s .state) between sized (ticked-sound s h) in
+    let next = arrived (tickOf s .state) between in
+    let full : 0 < budgetAt next i = omega (arith, r .2, refilled-full s z h i l e, known .used i l .budget .low) in
+    let ready : readyAt next i ≡ true = rw (w, lt-ltb 0 (budgetAt next i) full) in
+    rw (tick-accepts next (r .1)) (serves-highest next i ready above (choiceOf next) (chosen-first next (r .0) (r .1)))

@@ -1,7 +1,7 @@
--- Demand 3, over the scheduler's own tick and arrival call. What is quoted is document 01's or the demand's own words. Nothing here is proved; proofs/Assured.antt proves it.
+-- Demand 3, over the scheduler's own tick, run of ticks and arrival call. What is quoted is document 01's or the demand's own words. Nothing here is proved; proofs/Assured.antt proves it.
 use mathlib.Core.Path.{_≡_}
 use mathlib.Core.Bool.{Bool, not}
-use mathlib.Core.List.{List, [], _∷_}
+use mathlib.Core.List.{List, [], _∷_, _++_}
 use Prim.Native.Nat.{ℕ, zero, suc, _+_, _-_, _*_, _/_, _≤_, min}
 use lib.Dec.{ltb, eqb}
 use lib.ListN.{length, take, drop, getD}
@@ -12,10 +12,12 @@ use Rattle.scheduler.specs.State.{serverAt, entryAt}
 use Rattle.scheduler.specs.Choice.{wantsb, servesb}
 use Rattle.scheduler.specs.Arrive.{arriveOf}
 use Rattle.scheduler.specs.Tick.{tickOf}
+use Rattle.scheduler.specs.Run.{ticksIn, runOf}
 use Rattle.scheduler.specs.Fresh.{freshOf}
 use Rattle.scheduler.specs.Meaning.{budgetAt}
 use Rattle.scheduler.specs.declared.State.{State}
 use Rattle.scheduler.specs.declared.Choice.{Choice}
+use Rattle.scheduler.specs.declared.Answer.{Answer}
 
 -- THE TABLE
 
@@ -46,9 +48,10 @@ sure t i = min (budgetIn t i) (periodIn t i - mostHeld t i)
 
 -- A HISTORY
 
--- "over any calls": a tick, and an arrival at any server and task, also at one that is not there
+-- "over any calls": a tick, a run of any number of ticks in one call, and an arrival at any server and task, also at one that is not there
 pub data Call : Type 0 where
   tick : Call
+  run : ℕ → Call
   arrival : ℕ → ℕ → Call
 
 -- what is seen of one tick: the state before it, and whom its answer chooses
@@ -59,12 +62,26 @@ pub record Seen : Type 0 where
 abbrev pub seen : State → Seen
 seen s = record { state = s; choice = tickOf s .choice }
 
--- The ticks of a history from a state on, in order. "refused calls are no ticks". An arrival is seen in the state of the ticks after it.
+-- what is seen of a run's answers from a state on: each one's choice, with the state before its tick
+abbrev pub seenBy : List Answer → State → List Seen
+seenBy [] s = []
+seenBy (a ∷ rest) s = record { state = s; choice = a .choice } ∷ seenBy rest (tickOf s .state)
+
+-- The ticks of a history from a state on, in order. "refused calls are no ticks"; a refused run answers a count of 0. An arrival is seen in the state of
+-- the ticks after it.
 unfoldable pub ticksOf : State → List Call → List Seen
 ticksOf s [] = []
 ticksOf s (tick ∷ cs) =
     pick (eqb (tickOf s .refusal .number) 0) (seen s ∷ ticksOf (tickOf s .state) cs) (ticksOf (tickOf s .state) cs)
+ticksOf s (run k ∷ cs) = let r = runOf s k in seenBy (take (r .count) (r .answers)) s ++ ticksOf (r .state) cs
 ticksOf s (arrival i j ∷ cs) = ticksOf (arriveOf s i j .state) cs
+
+-- how many ticks the calls ask for; a run of more than 64 is a run of 64
+unfoldable pub ticksAsked : List Call → ℕ
+ticksAsked [] = 0
+ticksAsked (tick ∷ cs) = suc (ticksAsked cs)
+ticksAsked (run k ∷ cs) = ticksIn k + ticksAsked cs
+ticksAsked (arrival i j ∷ cs) = ticksAsked cs
 
 -- "A server's period k is ticks kP to kP + P − 1", of a history "from a fresh setup". The last one may be cut short where the history ends.
 unfoldable pub periodTicks : Table → List Call → ℕ → ℕ → List Seen

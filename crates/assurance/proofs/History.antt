@@ -133,17 +133,17 @@ module _ (t : Table) where
 
   -- ITS TICKS
 
+  then-same : {s w w′ : State} {c : Choice} → OneTick t s c w → Same w w′ → OneTick t s c w′
+  then-same o q = record {
+    first = o .first;
+    spent = λ i l h. let p = o .spent i l h in (q i .0 ∙ p .0, q i .1 ∙ p .1);
+    filled = λ i l h. let p = o .filled i l h in (q i .0 ∙ p .0, q i .1 ∙ p .1);
+  }
+
   module _ (e : State) where
     row-first : (s : State) (xs : List Seen) → Row t s xs e → Same s (stateAt e xs 0)
     row-first s [] r = r
     row-first s (x ∷ xs) r = r .0
-
-    then-same : {s w w′ : State} {c : Choice} → OneTick t s c w → Same w w′ → OneTick t s c w′
-    then-same o q = record {
-      first = o .first;
-      spent = λ i l h. let p = o .spent i l h in (q i .0 ∙ p .0, q i .1 ∙ p .1);
-      filled = λ i l h. let p = o .filled i l h in (q i .0 ∙ p .0, q i .1 ∙ p .1);
-    }
 
     row-tick : (s : State) (xs : List Seen) → Row t s xs e → (x : ℕ) → x < length xs → OneTick t (stateAt e xs x) (choiceAt e xs x) (stateAt e xs (suc x))
     row-tick s [] r x l = absurd (omega arith)
@@ -188,15 +188,13 @@ module _ (t : Table) (z : Sized t) (h : tableb longest mostWork t ≡ true) wher
   start-full i = rw (fresh-made t h) (fresh-budget t h i, fresh-refill t h i)
 
   module _ (cs : List Call) where
-    -- its ticks, and the state at its end
-
     pub fresh-row : Rowed t (freshOf t .state) (ticksOf (freshOf t .state) cs) (ticksAsked cs)
     fresh-row = history t cs (freshOf t .state) start
 
-    abbrev pub seenAll : List Seen
+    abbrev seenAll : List Seen
     seenAll = ticksOf (freshOf t .state) cs
 
-    abbrev pub endAll : State
+    abbrev endAll : State
     endAll = fresh-row .end
 
     pub first-full : (i : ℕ) → Full t (stateAt endAll seenAll 0) i

@@ -1,6 +1,6 @@
--- "So a budget that ends on the tick of its refill is emptied first and then full", and the next tick runs it, if it wants that and is the highest that can.
+-- "So a budget that ends on the tick of its refill is emptied first and then full": and so its server runs on the next tick, where nobody above it is ready.
 -- Assumes nothing.
-use mathlib.Core.Path.{_≡_, refl, ap, _∙_}
+use mathlib.Core.Path.{_≡_, refl, _∙_}
 use mathlib.Core.Bool.{true, false}
 use mathlib.Core.List.{List, [], _∷_}
 use Prim.Native.Nat.{ℕ, _<_}
@@ -30,14 +30,14 @@ use Rattle.assurance.specs.Demand3.{wantsAt}
 pub refilled-full : (s : State) → SizedState s → stateb s ≡ true → (i : ℕ) → i < s .table .count → refillAway s i ≡ 1 → budgetAt (tickOf s .state) i ≡ fullAt s i
 refilled-full s z h i l e = rw (tick-accepts s h) (tick-filled s z h i l e .budget)
 
--- AND THE NEXT TICK
+-- THE NEXT TICK
 
--- arrivals, each of a server and a task, one after the other
+-- the state after arrivals, each of a server and a task
 abbrev pub arrived : State → List (ℕ × ℕ) → State
 arrived s [] = s
 arrived s (a ∷ rest) = arrived (arriveOf s (a .0) (a .1) .state) rest
 
--- they keep a state sound, and every budget
+-- sound like the one before, and with its budgets
 module _ (i : ℕ) where
   arrived-sound : (s : State) (between : List (ℕ × ℕ)) → SizedState s → stateb s ≡ true
       → let next = arrived s between in SizedState next × (stateb next ≡ true) × (budgetAt next i ≡ budgetAt s i)
@@ -63,7 +63,7 @@ serves-highest s i r above = go
     go (Burning k) f = same k (f .0)
     go (Running k j) f = same k (f .0)
 
--- also if arrivals come between the two ticks
+-- whatever arrives between the two ticks: the next tick runs it, if it wants that tick and nobody above it is ready
 pub refilled-runs : (s : State) → SizedState s → stateb s ≡ true → (i : ℕ) → i < s .table .count → refillAway s i ≡ 1 → (between : List (ℕ × ℕ))
     → let next = arrived (tickOf s .state) between in
     wantsAt next i ≡ true → ((j : ℕ) → j < i → readyAt next j ≡ false) → servesb (tickOf next .choice) i ≡ true

@@ -1,16 +1,15 @@
--- A run stands for its ticks: a history that has a run is seen as the one that has single ticks in its place, as the run's answers are theirs. Assumes nothing.
+-- A run stands for its ticks: its answers are those of single ticks in a row, and where it is refused so are they. Assumes nothing.
 use mathlib.Core.Path.{_≡_, refl, ap, _∙_}
 use mathlib.Core.Bool.{Bool, true, false}
-use mathlib.Core.List.{List, [], _∷_, _++_}
+use mathlib.Core.List.{List, _∷_, _++_}
 use mathlib.Core.Logic.{_≢_}
 use Prim.Native.Nat.{ℕ, zero, suc}
-use lib.Dec.{eqb}
 use lib.ListN.{take, replicate}
 use borrow.Author.Tests.{ne-eqb}
 use Rattle.refusal.proofs.Small.{contrary}
 use Rattle.scheduler.specs.Sound.{stateb}
 use Rattle.scheduler.specs.Tick.{tickOf}
-use Rattle.scheduler.specs.Run.{answersOf, stateAfterTicks, ticksIn, runOf}
+use Rattle.scheduler.specs.Run.{answersOf, stateAfterTicks, ticksIn}
 use Rattle.scheduler.specs.declared.State.{State}
 use Rattle.scheduler.specs.declared.Answer.{Answer}
 use Rattle.scheduler.proofs.Refusals.{run-accepted}
@@ -42,7 +41,7 @@ module _ (cs : List Call) where
   unseen-ticks zero s r = refl
   unseen-ticks (suc n) s r = unseen-tick s r (replicate n tick ++ cs) ∙ unseen-ticks n s r
 
--- of every state, sound or not
+-- what is seen from any state on, sound or not, is what is seen where single ticks stand in the run's place
 pub run-ticks : (s : State) (k : ℕ) (cs : List Call) → ticksOf s (run k ∷ cs) ≡ ticksOf s (replicate (ticksIn k) tick ++ cs)
 unfolding ticksOf
 run-ticks s k cs = go (stateb s) refl

@@ -1,4 +1,5 @@
--- Demand 3, over the scheduler's own tick, run of ticks and arrival call. What is quoted is document 01's or the demand's own words. Nothing here is proved; proofs/Assured.antt proves it.
+-- Demand 3, over the scheduler's own tick, run of ticks and arrival call. What is quoted is document 01's or the demand's own words. Nothing here is proved;
+-- proofs/Assured.antt proves it of every sound table, proofs/FromFile.antt of every setup file that is accepted.
 use mathlib.Core.Path.{_≡_}
 use mathlib.Core.Bool.{Bool, not}
 use mathlib.Core.List.{List, [], _∷_, _++_}

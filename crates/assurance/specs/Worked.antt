@@ -14,7 +14,8 @@ use Rattle.assurance.specs.Demand3.{mostHeld, sure, Call, tick, run, arr
 abbrev pub tight : Table
 tight = setup (server 2 3 1 (onArrival 3 ∷ []) ∷ server 1 5 5 [] ∷ [])
 
--- an arrival (0, 0) between a run of five ticks and five single ones: server 0 runs on ticks 5, 6 and 9, at the end of one of its periods and in the first ticks of the next two
+-- an arrival (0, 0) between a run of five ticks and five single ones: server 0 runs on ticks 5, 6 and 9, at the end of one of its periods and in the first
+-- ticks of the next two
 abbrev pub tightCalls : List Call
 tightCalls = run 5 ∷ arrival 0 0 ∷ replicate 5 tick
 

@@ -1,6 +1,7 @@
 pub mod Limits
 pub mod Row
 pub mod Sound
+pub mod Meaning
 pub mod Holds
 pub mod Calls
 pub mod Lent

@@ -1,0 +1,44 @@
+-- "A queue alone is sound if it is in normal form, its events' ids differ, no distance is above 1,000,000, and cells past the last are zero": the document's
+-- words, cell by cell. M is the largest gap and D the longest distance. `queue-sound` (proofs/Words.antt) says that the test `soundb` holds exactly of the
+-- queues that are sound in these words.
+use mathlib.Core.Path.{_≡_}
+use mathlib.Core.Logic.{_≢_}
+use mathlib.Core.List.{List, [], _∷_, flatten}
+use Prim.Native.Nat.{ℕ, _-_, _*_, _≤_, _<_}
+use lib.ListN.{length, getD}
+use Rattle.queue.specs.Limits.{cellCount}
+use Rattle.queue.specs.Row.{event, cell, cellsOf, eventsFrom, eventsOf}
+use Rattle.queue.specs.declared.Cell.{Cell}
+use Rattle.queue.specs.declared.Queue.{Queue}
+
+-- the cells of one event
+pub record OneEvent (M : ℕ) (cs : List Cell) : Type 0 where
+  -- "let g be the distance between an event and the event before it (or now)": counted from there, the cells hold this event and no other
+  pub id : ℕ
+  pub g : ℕ
+  pub one : eventsFrom 0 cs ≡ event id g ∷ []
+  -- "as few cells as can hold g": n cells hold up to n * M
+  pub fewest : (n : ℕ) → 1 ≤ n → g ≤ n * M → length cs ≤ n
+  -- "the event last"
+  pub last : getD cs (length cs - 1) (cell 0 0) .id ≡ id
+  -- "The first cell has what remains; each other, the event included, has gap 65,535"
+  pub first : getD cs 0 (cell 0 0) .gap ≤ M
+  pub others : (i : ℕ) → 1 ≤ i → i < length cs → getD cs i (cell 0 0) .gap ≡ M
+
+-- "No filler follows the last event": the row is the cells of one event after the other, and nothing besides
+pub record NormalForm (M : ℕ) (cs : List Cell) : Type 0 where
+  pub groups : List (List Cell)
+  pub whole : flatten groups ≡ cs
+  pub each : (i : ℕ) → i < length groups → OneEvent M (getD groups i [])
+
+pub record SoundQueue (M D : ℕ) (q : Queue) : Type 0 where
+  -- "A queue is a row of at most 32 cells": every queue of the code has 32 places
+  pub places : length (q .cells) ≡ cellCount
+  pub few : q .len ≤ cellCount
+  pub normal : NormalForm M (cellsOf q)
+  -- "its events' ids differ"
+  pub apart : (i j : ℕ) → i < j → j < length (eventsOf q) → getD (eventsOf q) i (event 0 0) .id ≢ getD (eventsOf q) j (event 0 0) .id
+  -- "no distance is above 1,000,000"
+  pub near : (i : ℕ) → i < length (eventsOf q) → getD (eventsOf q) i (event 0 0) .at ≤ D
+  -- "cells past the last are zero"
+  pub past : (i : ℕ) → q .len ≤ i → i < cellCount → getD (q .cells) i (cell 0 0) ≡ cell 0 0

@@ -18,5 +18,6 @@ pub mod Unchanged
 pub mod Keeps
 pub mod DueTimes
 pub mod Fewest
+pub mod Words
 pub mod Room
 pub mod Points

@@ -11,8 +11,8 @@ use native.Mathlib.Nat.{zero-mul, one-mul, lt-div-mul-add, div-lt-iff-lt-mul, mu
 use lib.Dec.{leb, eqb}
 use lib.ListN.{length, getD, take, drop, replicate, length-drop, length-replicate, getD-replicate, take-append-drop}
 use lib.Seq.{ext-getD, getD-drop}
-use borrow.Author.Tests.{eq-eqb, ne-eqb, le-leb, leb-true, leb-false, eqb-true, eqb-false, not-true}
-use Rattle.refusal.specs.Small.{pick, both, padded}
+use borrow.Author.Tests.{ne-eqb, le-leb, leb-true, leb-false, eqb-true, eqb-false, not-true}
+use Rattle.refusal.specs.Small.{pick, padded}
 use Rattle.refusal.proofs.Small.{both-left, both-right, neither-left, neither-right, contrary}
 use Rattle.queue.specs.Limits.{cellCount, filler}
 use Rattle.queue.specs.Row.{Event, event, cell, cellsOf, queueOf, eventsOf, eventsFrom, chain, cellsFor, normal}
@@ -152,6 +152,10 @@ one-cells M (c ∷ cs) m o = is ∙ go (leb 1 (c .gap)) refl
     go true p = rw sum (sym (chain-of M k (o .id) (c .gap) (leb-true 1 (c .gap) p) (o .first)))
     go false p = let r : c .gap < 1 = leb-false 1 (c .gap) p in alone k refl (omega arith)
 
+-- "g up to 65,535: one cell, the event, gap g"
+pub short-gap : (M : ℕ) (cs : List Cell) → 1 ≤ M → (o : OneEvent M cs) → o .g ≤ M → cs ≡ cell (o .id) (o .g) ∷ []
+short-gap M cs m o h = one-cells M cs m o ∙ one-cell M (o .id) (o .g) m h
+
 -- THE NORMAL FORM
 
 -- the cells of each event, counted from t
@@ -201,46 +205,44 @@ normal-form M cs m = (forth, back)
 
 -- THE EVENTS
 
-has-none : (id : ℕ) (es : List Event) → hasb id es ≡ false ↔ ((i : ℕ) → i < length es → id ≢ getD es i (event 0 0) .id)
-has-none id [] = (λ e i h. absurd (omega arith), λ f. refl)
-has-none id (e ∷ es) = (forth (has-none id es .0), back (has-none id es .1))
-  where
-    forth : (hasb id es ≡ false → (i : ℕ) → i < length es → id ≢ getD es i (event 0 0) .id) → pick (eqb (e .id) id) true (hasb id es) ≡ false
-        → (i : ℕ) → i < suc (length es) → id ≢ getD (e ∷ es) i (event 0 0) .id
-    forth rec f zero h q = eqb-false (e .id) id (neither-left (eqb (e .id) id) _ f) (sym q)
-    forth rec f (suc i) h q = rec (neither-right (eqb (e .id) id) _ f) i (omega arith) q
+abbrev None : ℕ → List Event → Type 0
+None id es = (i : ℕ) → i < length es → id ≢ getD es i (event 0 0) .id
 
-    back : (((i : ℕ) → i < length es → id ≢ getD es i (event 0 0) .id) → hasb id es ≡ false)
-        → ((i : ℕ) → i < suc (length es) → id ≢ getD (e ∷ es) i (event 0 0) .id) → pick (eqb (e .id) id) true (hasb id es) ≡ false
-    back rec f = rw (ne-eqb (e .id) id (λ q. f 0 (omega arith) (sym q))) (rec (λ i h. f (suc i) (omega (arith, h))))
+none-from : (id : ℕ) (es : List Event) → hasb id es ≡ false → None id es
+none-from id [] f i h q = absurd (omega arith)
+none-from id (e ∷ es) f zero h q = eqb-false (e .id) id (neither-left (eqb (e .id) id) _ f) (sym q)
+none-from id (e ∷ es) f (suc i) h q = none-from id es (neither-right (eqb (e .id) id) _ f) i (omega arith) q
 
--- "its events' ids differ"
-pub ids-differ : (es : List Event) → distinctb es ≡ true
-    ↔ ((i j : ℕ) → i < j → j < length es → getD es i (event 0 0) .id ≢ getD es j (event 0 0) .id)
-ids-differ [] = (λ e i j h l. absurd (omega arith), λ f. refl)
-ids-differ (e ∷ es) = (forth (ids-differ es .0), back (ids-differ es .1))
-  where
-    forth : (distinctb es ≡ true → (i j : ℕ) → i < j → j < length es → getD es i (event 0 0) .id ≢ getD es j (event 0 0) .id) → distinctb (e ∷ es) ≡ true
-        → (i j : ℕ) → i < j → j < suc (length es) → getD (e ∷ es) i (event 0 0) .id ≢ getD (e ∷ es) j (event 0 0) .id
-    forth rec d i zero h l = absurd (omega arith)
-    forth rec d zero (suc j) h l = has-none (e .id) es .0 (not-true _ (both-left (not (hasb (e .id) es)) _ d)) j (omega arith)
-    forth rec d (suc i) (suc j) h l = rec (both-right (not (hasb (e .id) es)) _ d) i j (omega arith) (omega arith)
+none-to : (id : ℕ) (es : List Event) → None id es → hasb id es ≡ false
+none-to id [] f = refl
+none-to id (e ∷ es) f = rw (ne-eqb (e .id) id (λ q. f 0 (omega arith) (sym q))) (none-to id es (λ i h. f (suc i) (omega (arith, h))))
 
-    back : (((i j : ℕ) → i < j → j < length es → getD es i (event 0 0) .id ≢ getD es j (event 0 0) .id) → distinctb es ≡ true)
-        → ((i j : ℕ) → i < j → j < suc (length es) → getD (e ∷ es) i (event 0 0) .id ≢ getD (e ∷ es) j (event 0 0) .id) → distinctb (e ∷ es) ≡ true
-    back rec f =
-        rw (has-none (e .id) es .1 (λ j h. f 0 (suc j) (omega arith) (omega (arith, h))))
-        (rec (λ i j h l. f (suc i) (suc j) (omega (arith, h)) (omega (arith, l))))
+abbrev Apart : List Event → Type 0
+Apart es = (i j : ℕ) → i < j → j < length es → getD es i (event 0 0) .id ≢ getD es j (event 0 0) .id
 
--- "no distance is above 1,000,000"
-pub none-beyond : (D : ℕ) (es : List Event) → nearb D es ≡ true ↔ ((i : ℕ) → i < length es → getD es i (event 0 0) .at ≤ D)
-none-beyond D [] = (λ e i h. absurd (omega arith), λ f. refl)
-none-beyond D (e ∷ es) = (forth (none-beyond D es .0), λ f. rw (le-leb (e .at) D (f 0 (omega arith))) (none-beyond D es .1 (λ i h. f (suc i) (omega (arith, h)))))
-  where
-    forth : (nearb D es ≡ true → (i : ℕ) → i < length es → getD es i (event 0 0) .at ≤ D) → nearb D (e ∷ es) ≡ true
-        → (i : ℕ) → i < suc (length es) → getD (e ∷ es) i (event 0 0) .at ≤ D
-    forth rec f zero h = leb-true (e .at) D (both-left _ _ f)
-    forth rec f (suc i) h = rec (both-right (leb (e .at) D) _ f) i (omega arith)
+apart-from : (es : List Event) → distinctb es ≡ true → Apart es
+apart-from [] d i j h l = absurd (omega arith)
+apart-from (e ∷ es) d i zero h l = absurd (omega arith)
+apart-from (e ∷ es) d zero (suc j) h l = none-from (e .id) es (not-true _ (both-left (not (hasb (e .id) es)) _ d)) j (omega arith)
+apart-from (e ∷ es) d (suc i) (suc j) h l = apart-from es (both-right (not (hasb (e .id) es)) _ d) i j (omega arith) (omega arith)
+
+apart-to : (es : List Event) → Apart es → distinctb es ≡ true
+apart-to [] f = refl
+apart-to (e ∷ es) f =
+    rw (none-to (e .id) es (λ j h. f 0 (suc j) (omega arith) (omega (arith, h))))
+    (apart-to es (λ i j h l. f (suc i) (suc j) (omega (arith, h)) (omega (arith, l))))
+
+abbrev Near : ℕ → List Event → Type 0
+Near D es = (i : ℕ) → i < length es → getD es i (event 0 0) .at ≤ D
+
+near-from : (D : ℕ) (es : List Event) → nearb D es ≡ true → Near D es
+near-from D [] f i h = absurd (omega arith)
+near-from D (e ∷ es) f zero h = leb-true (e .at) D (both-left _ _ f)
+near-from D (e ∷ es) f (suc i) h = near-from D es (both-right (leb (e .at) D) _ f) i (omega arith)
+
+near-to : (D : ℕ) (es : List Event) → Near D es → nearb D es ≡ true
+near-to D [] f = refl
+near-to D (e ∷ es) f = rw (le-leb (e .at) D (f 0 (omega arith))) (near-to D es (λ i h. f (suc i) (omega (arith, h))))
 
 -- "cells past the last are zero": the queue is that of its own cells
 past-zero : (q : Queue) → length (q .cells) ≡ cellCount → q .len ≤ cellCount
@@ -254,22 +256,26 @@ past-zero q full few past = λ j. record { cells = whole j; len = sym n j }
     rest : List Cell
     rest = drop (q .len) (q .cells)
 
+    zeros : List Cell
+    zeros = replicate (cellCount - length cs) (cell 0 0)
+
     n : length cs ≡ q .len
     n = cells-length q full few
 
     m : length rest ≡ cellCount - length cs
     m = length-drop (q .len) (q .cells) ∙ omega (arith, full, n)
 
-    at : (i : ℕ) → i < length rest → getD rest i (cell 0 0) ≡ getD (replicate (cellCount - length cs) (cell 0 0)) i (cell 0 0)
+    at : (i : ℕ) → i < length rest → getD rest i (cell 0 0) ≡ getD zeros i (cell 0 0)
     at i h =
-        let z : getD (replicate (cellCount - length cs) (cell 0 0)) i (cell 0 0) ≡ cell 0 0 = getD-replicate (cellCount - length cs) i (cell 0 0) (cell 0 0) (omega (arith, m)) in
-        getD-drop (q .len) (q .cells) i (cell 0 0) ∙ past (q .len + i) (omega arith) (omega (arith, m, n, few)) ∙ sym z
+        getD-drop (q .len) (q .cells) i (cell 0 0)
+        ∙ past (q .len + i) (omega arith) (omega (arith, m, n, few))
+        ∙ sym (getD-replicate (cellCount - length cs) i (cell 0 0) (cell 0 0) (omega (arith, m)))
 
-    zeros : rest ≡ replicate (cellCount - length cs) (cell 0 0)
-    zeros = ext-getD (cell 0 0) rest (replicate (cellCount - length cs) (cell 0 0)) (m ∙ sym (length-replicate (cellCount - length cs) (cell 0 0))) at
+    tail : rest ≡ zeros
+    tail = ext-getD (cell 0 0) rest zeros (m ∙ sym (length-replicate (cellCount - length cs) (cell 0 0))) at
 
     whole : q .cells ≡ padded (cell 0 0) cellCount cs
-    whole = sym (take-append-drop (q .len) (q .cells)) ∙ ap {B = List Cell} (λ l. cs ++ l) zeros
+    whole = sym (take-append-drop (q .len) (q .cells)) ∙ ap {B = List Cell} (λ l. cs ++ l) tail
 
 -- "A QUEUE ALONE IS SOUND IF IT IS IN NORMAL FORM, ITS EVENTS' IDS DIFFER, NO DISTANCE IS ABOVE 1,000,000, AND CELLS PAST THE LAST ARE ZERO"
 pub queue-sound : (M D : ℕ) → 1 ≤ M → (q : Queue) → soundb M D q ≡ true ↔ SoundQueue M D q
@@ -292,8 +298,8 @@ queue-sound M D m q = (forth, back)
           places = sound-full M D q s;
           few = s .short;
           normal = normal-form M (cellsOf q) m .0 (sound-cells M D q s);
-          apart = ids-differ (eventsOf q) .0 (s .distinct);
-          near = none-beyond D (eventsOf q) .0 (s .near);
+          apart = apart-from (eventsOf q) (s .distinct);
+          near = near-from D (eventsOf q) (s .near);
           past = gone s;
         }
 
@@ -302,4 +308,4 @@ queue-sound M D m q = (forth, back)
         let c : cellsOf q ≡ normal M 0 (eventsOf q) = normal-form M (cellsOf q) m .1 (w .normal) in
         let e : q ≡ queueOf (normal M 0 (eventsOf q)) = past-zero q (w .places) (w .few) (w .past) ∙ ap queueOf c in
         let f : sameb q (queueOf (normal M 0 (eventsOf q))) ≡ true = ap (sameb q) (sym e) ∙ queue-self q in
-        rw (le-leb (q .len) cellCount (w .few), f, ids-differ (eventsOf q) .1 (w .apart), none-beyond D (eventsOf q) .1 (w .near))
+        rw (le-leb (q .len) cellCount (w .few), f, apart-to (eventsOf q) (w .apart), near-to D (eventsOf q) (w .near))

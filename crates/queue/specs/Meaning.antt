@@ -17,11 +17,11 @@ pub record OneEvent (M : ℕ) (cs : List Cell) : Type 0 where
   pub id : ℕ
   pub g : ℕ
   pub one : eventsFrom 0 cs ≡ event id g ∷ []
-  -- "as few cells as can hold g": n cells hold up to n * M
+  -- "as few cells as can hold g", and so one for g up to M: n cells hold up to n * M
   pub fewest : (n : ℕ) → 1 ≤ n → g ≤ n * M → length cs ≤ n
   -- "the event last"
   pub last : getD cs (length cs - 1) (cell 0 0) .id ≡ id
-  -- "The first cell has what remains; each other, the event included, has gap 65,535"
+  -- "The first cell has what remains; each other, the event included, has gap 65,535": what remains is at most that too
   pub first : getD cs 0 (cell 0 0) .gap ≤ M
   pub others : (i : ℕ) → 1 ≤ i → i < length cs → getD cs i (cell 0 0) .gap ≡ M
 

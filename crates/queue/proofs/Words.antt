@@ -54,7 +54,7 @@ cells-one M g id m n =
       id = id;
       g = g;
       one = ap (eventsFrom 0) (sym (append-nil (cellsFor M g id))) ∙ events-cells M 0 g id [] n ∙ ap (λ (x : ℕ). event id x ∷ []) z;
-      fewest = λ x p h. let c = cells-count M g id in omega (arith, c, few-hold M g x m p h);
+      fewest = λ x p h. let l : g ≤ x * M = omega (arith, h) in omega (arith, cells-count M g id, few-hold M g x m p l);
       last = rw e (chain-last M k id r);
       first = rw (chain-first M k id r) (omega (arith, lt-div-mul-add {a = g - 1} {b = M} m));
       others = other;

@@ -43,6 +43,8 @@ def run(folder, *words, **variables):
 
 def example_faults(folder):
     found = faults("the worked example", run(folder), 0, WORKED, r"^examples: proving .* \d+ crates$", r"^examples: (\d+) of \1[: ]")
+    if f"\n```\n{WORKED}```\n" not in (ROOT / "README.md").read_text():
+        found.append("README.md does not have the worked example's output")
     done = run(ROOT / "examples", "brakes.hex")
     ended = re.search(r"\A(tick server task\n(?:.*\n)*)refused 20 at 117\n(?:.*\n)*end 50\n\Z", done.stdout)
     return found + faults("brakes.hex, which has a refused arrival", done, 0, ended[0] if ended else "a refused arrival and an end")

@@ -2,27 +2,24 @@
 use mathlib.Core.Path.{_≡_, refl, ap, _∙_}
 use mathlib.Core.Bool.{Bool, true, false}
 use mathlib.Core.List.{List, [], _∷_}
-use Prim.Native.Nat.{ℕ, zero, suc, _-_, _≤_, _<_}
+use Prim.Native.Nat.{ℕ, zero, suc, _-_, _<_}
 use native.Mathlib.Omega.{arith}
 use lib.Dec.{eqb}
 use lib.ListN.{length, getD}
 use borrow.Author.Tests.{eq-eqb, ne-eqb, eqb-true}
 use Rattle.refusal.specs.Small.{pick, alter}
-use Rattle.queue.specs.Limits.{longest}
 use Rattle.queue.proofs.DueTimes.{there}
-use Rattle.table.specs.Limits.{entries, mostWork}
+use Rattle.table.specs.Limits.{entries}
 use Rattle.table.specs.declared.Server.{Server}
-use Rattle.table.specs.Meaning.{SoundTable}
-use Rattle.table.proofs.Soundness.{table-sound}
-use Rattle.scheduler.specs.State.{zeroEntry, serverAt, entryAt}
+use Rattle.scheduler.specs.State.{zeroEntry}
 use Rattle.scheduler.specs.Sound.{serverReaches, stateb}
 use Rattle.scheduler.specs.Choice.{chosenOf, choiceOf, servesb}
 use Rattle.scheduler.specs.Arrive.{arriveOf}
 use Rattle.scheduler.specs.Tick.{charge, dueIn, withBudget, refilled, periodAt, fullAt, served4, eachEntry, chargedEntries, stateAfter}
-use Rattle.scheduler.specs.Meaning.{SizedState, budgetAt, refillAway, Spent, Filled}
+use Rattle.scheduler.specs.Meaning.{SizedState, budgetAt, refillAway, SoundState, Spent, Filled}
 use Rattle.scheduler.specs.declared.Entry.{Entry}
 use Rattle.scheduler.specs.declared.State.{State}
-use Rattle.scheduler.proofs.Stated.{server-reach, entry-stated, stated}
+use Rattle.scheduler.proofs.Words.{state-sound}
 use Rattle.scheduler.proofs.Lists.{length-alter}
 use Rattle.scheduler.proofs.Altered.{read-altered, alter-keeps}
 use Rattle.scheduler.proofs.Unchanged.{arrive-either}
@@ -65,25 +62,18 @@ charged-budget es k i l = rw (read-altered charge es k i zeroEntry l) (go (eqb k
 -- A TICK, for each server in use
 
 module _ (s : State) (z : SizedState s) (h : stateb s ≡ true) (i : ℕ) (u : i < s .table .count) where
-  known : SoundTable longest mostWork (s .table)
-  known = table-sound longest mostWork (s .table) (z .table) .0 (state-parts s .0 h .table)
+  known : SoundState s
+  known = state-sound s z .0 h
 
   inside : i < entries
-  inside = omega (arith, known .count .high)
+  inside = omega (arith, known .table .count .high)
 
   -- its replenishment is there
   refill-there : there i (s .refills) ≡ true
-  refill-there = refills-each s h .present i (rw (server-reach (s .table .servers) i) (known .used i u .period .low))
+  refill-there = known .refills-held i .1 u
 
   is-due : inb i (dueIn (s .refills)) ≡ eqb (refillAway s i) 1
   is-due = held-due (serverReaches (s .table .servers)) (s .refills) (refills-each s h) i ∙ rw refill-there
-
-  -- a sound state: "budgets are at most C"; "a replenishment is 1 to P away"
-  pub sound-budget : budgetAt s i ≤ fullAt s i
-  sound-budget = entry-stated (serverAt s i) (entryAt s i) .0 (stated s record { servers = z .table .servers; entries = z .servers } .0 h .entry i inside) .budget
-
-  pub sound-refill : (1 ≤ refillAway s i) × (refillAway s i ≤ periodAt s i)
-  sound-refill = let w = refills-each s h .within i refill-there in (w .0, omega (arith, w .1, server-reach (s .table .servers) i))
 
   -- "The server's budget and the chosen task's work fall by 1." "Due replenishments set the budget to C": "emptied first and then full"
   pub tick-budget : budgetAt (stateAfter s) i ≡ pick (eqb (refillAway s i) 1) (fullAt s i) (budgetAt s i - pick (servesb (choiceOf s) i) 1 0)

@@ -7,6 +7,7 @@ pub mod Reached
 pub mod Refusals
 pub mod Unchanged
 pub mod HeldEach
+pub mod Words
 pub mod Again
 pub mod Turns
 pub mod TickSound

@@ -2,16 +2,21 @@
 use mathlib.Core.Path.{_≡_}
 use mathlib.Core.Bool.{Bool, true, false}
 use mathlib.Core.List.{List, [], _∷_}
-use Prim.Native.Nat.{ℕ, _+_, _-_, _<_}
+use mathlib.Core.Logic.{_↔_}
+use Prim.Native.Nat.{ℕ, _+_, _-_, _≤_, _<_, max}
 use lib.Dec.{eqb}
 use lib.ListN.{length, getD}
 use Rattle.refusal.specs.Small.{pick, both}
+use Rattle.queue.specs.Limits.{maxGap, longest}
 use Rattle.queue.specs.Row.{Event, eventsOf}
 use Rattle.queue.specs.Sound.{hasb}
+use Rattle.queue.specs.Meaning.{SoundQueue}
 use Rattle.queue.specs.Calls.{distanceOf}
-use Rattle.table.specs.Limits.{entries}
-use Rattle.table.specs.Meaning.{Sized}
-use Rattle.scheduler.specs.State.{zeroLoad, serverAt, entryAt}
+use Rattle.table.specs.Limits.{mostWork, entries}
+use Rattle.table.specs.Table.{releaseNumber, periodOf, offsetOf}
+use Rattle.table.specs.Meaning.{Within, SoundTable, Sized}
+use Rattle.table.specs.declared.Release.{Release}
+use Rattle.scheduler.specs.State.{mostPending, mostLost, zeroLoad, zeroEntry, serverAt, entryAt, taskAt}
 use Rattle.scheduler.specs.Choice.{pendingb, readyb, choiceOf, servesb}
 use Rattle.scheduler.specs.Tick.{periodAt, fullAt}
 use Rattle.scheduler.specs.declared.Load.{Load}
@@ -44,13 +49,52 @@ arrivalThere s i j = hasb j (eventsOf (entryAt s i .arrivals))
 abbrev pub arrivalAway : State → ℕ → ℕ → ℕ
 arrivalAway s i j = distanceOf j (eventsOf (entryAt s i .arrivals))
 
--- server i's budget, and how far its replenishment is away
+-- server i's budget; whether it has a replenishment, and how far that is away
 
 abbrev pub budgetAt : State → ℕ → ℕ
 budgetAt s i = entryAt s i .budget .0
 
+abbrev pub refillThere : State → ℕ → Bool
+refillThere s i = hasb i (eventsOf (s .refills))
+
 abbrev pub refillAway : State → ℕ → ℕ
 refillAway s i = distanceOf i (eventsOf (s .refills))
+
+-- how task j of server i is released, and the larger of its T and O
+
+abbrev pub releaseAt : State → ℕ → ℕ → Release
+releaseAt s i j = taskAt (serverAt s i) j .release
+
+abbrev pub largerAt : State → ℕ → ℕ → ℕ
+largerAt s i j = max (periodOf (releaseAt s i j)) (offsetOf (releaseAt s i j))
+
+-- task j of server i is in the setup, and periodic: "release (0 on arrival, 1 periodic)"
+pub record PeriodicTask (s : State) (i j : ℕ) : Type 0 where
+  pub server : i < s .table .count
+  pub task : j < serverAt s i .count
+  pub periodic : releaseNumber (releaseAt s i j) ≡ 1
+
+-- "A state is sound if ..": the document's words, clause by clause. "Event ids are the places in the table." `state-sound` (proofs/Words.antt) says that the
+-- test `stateb` holds exactly of the states that are sound in these words.
+pub record SoundState (s : State) : Type 0 where
+  -- "table values are in range; unused entries are zero": the table's, the servers', and the tasks' of each server
+  pub table : SoundTable longest mostWork (s .table)
+  pub unused-servers : (i : ℕ) → s .table .count ≤ i → i < entries → entryAt s i ≡ zeroEntry
+  pub unused-tasks : (i j : ℕ) → i < s .table .count → serverAt s i .count ≤ j → j < entries → loadAt s i j ≡ zeroLoad
+  -- "budgets are at most C"
+  pub budgets : (i : ℕ) → i < s .table .count → budgetAt s i ≤ fullAt s i
+  -- "pending work is at most 1,000,000, lost counts at most 65,535"
+  pub pending : (i j : ℕ) → i < s .table .count → j < serverAt s i .count → loadAt s i j .pending .0 ≤ mostPending
+  pub lost : (i j : ℕ) → i < s .table .count → j < serverAt s i .count → loadAt s i j .lost ≤ mostLost
+  -- "queues are each sound alone"
+  pub refills-sound : SoundQueue maxGap longest (s .refills)
+  pub arrivals-sound : (i : ℕ) → i < entries → SoundQueue maxGap longest (entryAt s i .arrivals)
+  -- "and hold exactly the replenishments and the periodic tasks' arrivals, each once": the ids in a sound queue differ, so once
+  pub refills-held : (i : ℕ) → refillThere s i ≡ true ↔ (i < s .table .count)
+  pub arrivals-held : (i j : ℕ) → arrivalThere s i j ≡ true ↔ PeriodicTask s i j
+  -- "a replenishment is 1 to P away, an arrival 1 to the larger of T and O"
+  pub refills-away : (i : ℕ) → i < s .table .count → Within 1 (periodAt s i) (refillAway s i)
+  pub arrivals-away : (i j : ℕ) → PeriodicTask s i j → Within 1 (largerAt s i j) (arrivalAway s i j)
 
 -- the tick serves task j of server i
 abbrev pub runsb : Choice → ℕ → ℕ → Bool

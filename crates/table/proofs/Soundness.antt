@@ -1,5 +1,4 @@
--- What the tests of a table say, in the words of specs/Meaning.antt, over any longest distance D and any most work W; and that each public function of the
--- crate has one answer. Assumes nothing.
+-- What the tests of a table say, in the words of specs/Meaning.antt, over any longest distance D and any most work W. Assumes nothing.
 use mathlib.Core.Path.{_≡_, refl, sym, ap, _∙_}
 use mathlib.Core.Bool.{Bool, true, false}
 use mathlib.Core.Logic.{_↔_, _⊎_, inl, inr}
@@ -11,9 +10,8 @@ use lib.Seq.{ext-getD}
 use borrow.Author.Tests.{leb-true, eqb-true, le-leb}
 use Rattle.refusal.specs.Small.{pick}
 use Rattle.refusal.proofs.Small.{both-left, both-right}
-use Rattle.queue.specs.Limits.{longest}
-use Rattle.table.specs.Limits.{entries, mostWork}
-use Rattle.table.specs.Table.{zeroTask, zeroServer, zeroTable}
+use Rattle.table.specs.Limits.{entries}
+use Rattle.table.specs.Table.{zeroTask, zeroServer}
 use Rattle.table.specs.Sound.{rangeb, releaseb, taskb, arrivalb, zeroTaskb, kindb, serverb, zeroServerb, tableb}
 use Rattle.table.specs.Meaning.{Within, SoundRelease, SoundTask, SoundServer, SoundTable, Sized}
 use Rattle.table.specs.declared.Release.{Release}
@@ -22,32 +20,6 @@ use Rattle.table.specs.declared.Task.{Task}
 use Rattle.table.specs.declared.Server.{Server}
 use Rattle.table.specs.declared.Table.{Table}
 use Rattle.table.proofs.Used.{Each, each-from, each-to}
-
--- ONE ANSWER: any two that a function's contract allows are equal
-
-pub table-one : (t : Table) (r s : Bool) → r ≡ tableb longest mostWork t → s ≡ tableb longest mostWork t → r ≡ s
-table-one t r s p q = p ∙ sym q
-
-pub server-sound-one : (e : Server) (r s : Bool) → r ≡ serverb longest mostWork e → s ≡ serverb longest mostWork e → r ≡ s
-server-sound-one e r s p q = p ∙ sym q
-
-pub task-sound-one : (t : Task) (r s : Bool) → r ≡ taskb longest mostWork t → s ≡ taskb longest mostWork t → r ≡ s
-task-sound-one t r s p q = p ∙ sym q
-
-pub known-kind-one : (k : ℕ) (r s : Bool) → r ≡ kindb k → s ≡ kindb k → r ≡ s
-known-kind-one k r s p q = p ∙ sym q
-
-pub in-range-one : (x least most : ℕ) (r s : Bool) → r ≡ rangeb least most x → s ≡ rangeb least most x → r ≡ s
-in-range-one x least most r s p q = p ∙ sym q
-
-pub zero-table-one : (r s : Table) → r ≡ zeroTable → s ≡ zeroTable → r ≡ s
-zero-table-one r s p q = p ∙ sym q
-
-pub zero-server-one : (r s : Server) → r ≡ zeroServer → s ≡ zeroServer → r ≡ s
-zero-server-one r s p q = p ∙ sym q
-
-pub zero-task-one : (r s : Task) → r ≡ zeroTask → s ≡ zeroTask → r ≡ s
-zero-task-one r s p q = p ∙ sym q
 
 -- THE TESTS IN WORDS
 

@@ -37,6 +37,7 @@ use Rattle.scheduler.specs.Arrive.{arriveOf}
 use Rattle.scheduler.specs.declared.Load.{Load}
 use Rattle.scheduler.specs.declared.Entry.{Entry}
 use Rattle.scheduler.specs.declared.State.{State}
+use Rattle.scheduler.proofs.Unchanged.{tick-unchanged, arrive-unchanged}
 use Rattle.scheduler.proofs.Stated.{held, within-each}
 use Rattle.scheduler.proofs.TickSound.{tick-accepts, tick-sound-accepted}
 use Rattle.scheduler.proofs.FreshSound.{fresh-made}
@@ -44,8 +45,9 @@ use Rattle.scheduler.proofs.KeptSizes.{tick-sized, arrive-sized, fresh-sized}
 use Rattle.port.specs.Layout.{queueSize, loadSize, entrySize, taskSize, serverSize, tableSize, stateSize}
 use Rattle.port.specs.Words.{word, manyIn, queueIn, loadIn, entryIn, releaseIn, taskIn, kindIn, serverIn, tableIn, stateIn}
 use Rattle.port.specs.Words.{manyWords, queueWords, loadWords, entryWords, taskWords, serverWords, tableWords, stateWords}
+use Rattle.port.specs.Exports.{heldAfter}
 use Rattle.port.proofs.Many.{Back, many-back, many-held}
-use Rattle.port.proofs.Storing.{queue-length}
+use Rattle.port.proofs.Storing.{queue-length, held-again}
 use Rattle.port.proofs.Answering.{fresh-gives, tick-gives, arrive-gives}
 use Rattle.port.proofs.Sizing.{FullEntry, FullServer, FullTable, sized-full, state-in-full, state-in-sized}
 use Rattle.port.proofs.Sizing.{table-length, loads-length, server-length, entry-length}
@@ -269,7 +271,7 @@ state-held ws l h =
     rw (take-add tableSize (queueSize + n) ws, take-add queueSize n us, drop-drop queueSize tableSize ws) in
     (λ i. table i ++ (refills i ++ last i)) ∙ sym parts ∙ take-all stateSize ws (omega arith)
 
--- WHAT A CALL STORES, THE NEXT CALL READS: the table of an accepted setup, the state that it begins in, and the states behind a tick and an arrival
+-- WHAT AN ACCEPTED SETUP STORES, THE NEXT CALL READS: its table, and the state that it begins in
 module _ (bs : List ℕ) (a : readOf longest mostWork bs .refusal .number ≡ 0) where
   pub setup-again : let t = readOf longest mostWork bs .table in tableIn (tableWords t) ≡ t
   setup-again = let h = accepted-sound longest mostWork bs a in table-there (readOf longest mostWork bs .table) (h .1) (h .0)
@@ -280,11 +282,19 @@ module _ (bs : List ℕ) (a : readOf longest mostWork bs .refusal .number ≡ 0)
       let h = accepted-sound longest mostWork bs a in
       state-there (freshOf t .state) (rw (fresh-made t (h .0)) (fresh-sized t (h .1))) (fresh-gives t (h .0))
 
-pub tick-again : (ws : List ℕ) → let t = tickOf (stateIn ws) in t .refusal .number ≡ 0 → stateIn (stateWords (t .state)) ≡ t .state
-tick-again ws a =
+-- WHAT A CALL LEAVES IN THE WORDS, THE NEXT CALL READS: behind a tick and an arrival, accepted or refused, the state that the call by value hands back
+pub tick-again : (ws : List ℕ) → let t = tickOf (stateIn ws) in stateIn (heldAfter (t .refusal) (stateWords (t .state)) ws) ≡ t .state
+tick-again ws =
     let s = stateIn ws in
-    let sound = tick-sound-accepted s .0 a in
-    state-there (tickOf s .state) (rw (tick-accepts s sound) (tick-sized s (state-in-sized ws))) (tick-gives s a)
+    let t = tickOf s in
+    held-again stateIn (t .refusal) (stateWords (t .state)) ws (t .state)
+    (λ a. state-there (t .state) (rw (tick-accepts s (tick-sound-accepted s .0 a)) (tick-sized s (state-in-sized ws))) (tick-gives s a))
+    (λ n. sym (tick-unchanged s n .0))
 
-pub arrive-again : (ws : List ℕ) (i j : ℕ) → let t = arriveOf (stateIn ws) i j in t .refusal .number ≡ 0 → stateIn (stateWords (t .state)) ≡ t .state
-arrive-again ws i j a = let s = stateIn ws in state-there (arriveOf s i j .state) (arrive-sized s i j (state-in-sized ws)) (arrive-gives s i j a)
+pub arrive-again : (ws : List ℕ) (i j : ℕ) → let t = arriveOf (stateIn ws) i j in stateIn (heldAfter (t .refusal) (stateWords (t .state)) ws) ≡ t .state
+arrive-again ws i j =
+    let s = stateIn ws in
+    let t = arriveOf s i j in
+    held-again stateIn (t .refusal) (stateWords (t .state)) ws (t .state)
+    (λ a. state-there (t .state) (arrive-sized s i j (state-in-sized ws)) (arrive-gives s i j a))
+    (λ n. sym (arrive-unchanged s i j n .0))

@@ -6,4 +6,5 @@ pub mod Ranges
 pub mod Answering
 pub mod Held
 pub mod HeldState
+pub mod Refusals
 pub mod OneOutcome

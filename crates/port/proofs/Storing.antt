@@ -1,12 +1,15 @@
--- What lent memory holds behind a call: where the call is accepted what it gives, and where it is refused what the memory held; and that the queue of an
--- accepted call can be stored. Assumes nothing.
+-- What lent memory holds behind a call, and is read as: where the call is accepted what it gives, and where it is refused what the memory held; and that the
+-- queue of an accepted call can be stored. Assumes nothing.
 use mathlib.Core.Path.{_≡_, refl, sym, ap, _∙_}
-use mathlib.Core.Bool.{true}
+use mathlib.Core.Bool.{Bool, true, false}
 use mathlib.Core.List.{List, [], _∷_}
+use mathlib.Core.Logic.{_≢_}
 use Prim.Native.Nat.{ℕ, _<_}
 use native.Mathlib.Omega.{arith}
+use lib.Dec.{eqb}
 use lib.ListN.{length}
-use borrow.Author.Tests.{ne-eqb}
+use borrow.Author.Tests.{ne-eqb, eqb-true, eqb-false}
+use Rattle.refusal.specs.Small.{pick}
 use Rattle.refusal.specs.declared.Refusal.{Refusal}
 use Rattle.field.specs.Field.{over}
 use Rattle.queue.specs.Limits.{cellCount, maxGap, longest}
@@ -31,6 +34,15 @@ module _ (x r : Refusal) (e : x ≡ r) (new old : List ℕ) where
 
   pub held-old : (x .number ≡ 0 → ⊥) → heldAfter r new old ≡ old
   held-old h = rw (← e, ne-eqb _ _ h)
+
+-- READ AGAIN: behind a call that hands x back, the memory is read as x where what it stores is, and, where it is refused, what the memory held
+pub held-again : {A : Type 0} (read : List ℕ → A) (r : Refusal) (new old : List ℕ) (x : A) → (r .number ≡ 0 → read new ≡ x) → (r .number ≢ 0 → read old ≡ x)
+    → read (heldAfter r new old) ≡ x
+held-again read r new old x accepted refused = go (eqb (r .number) 0) refl
+  where
+    go : (b : Bool) → eqb (r .number) 0 ≡ b → read (pick b new old) ≡ x
+    go true e = accepted (eqb-true (r .number) 0 e)
+    go false e = refused (eqb-false (r .number) 0 e)
 
 -- QUEUES
 

@@ -43,13 +43,21 @@ abbrev pub answerWords : Choice → ℕ → List ℕ
 answerWords c n = choiceNumber c ∷ chosenServer c ∷ chosenTask c ∷ n ∷ []
 
 -- reading a budget, and a task's pending work and lost count: "31 comes first everywhere", then no such server, no such task
+abbrev pub budgetChecks : State → ℕ → List Check
+budgetChecks s i = check unsound (not (stateb s)) ∷ check noServer (not (ltb i (s .table .count))) ∷ []
+
 abbrev pub budgetRefusal : State → ℕ → Refusal
-budgetRefusal s i = firstOf (check unsound (not (stateb s)) ∷ check noServer (not (ltb i (s .table .count))) ∷ [])
+budgetRefusal s i = firstOf (budgetChecks s i)
+
+abbrev pub loadChecks : State → ℕ → ℕ → List Check
+loadChecks s i j =
+    check unsound (not (stateb s))
+    ∷ check noServer (not (ltb i (s .table .count)))
+    ∷ check noTask (not (ltb j (serverAt s i .count)))
+    ∷ []
 
 abbrev pub loadRefusal : State → ℕ → ℕ → Refusal
-loadRefusal s i j =
-    firstOf
-    (check unsound (not (stateb s)) ∷ check noServer (not (ltb i (s .table .count))) ∷ check noTask (not (ltb j (serverAt s i .count))) ∷ [])
+loadRefusal s i j = firstOf (loadChecks s i j)
 
 abbrev pub loadAt : State → ℕ → ℕ → Load
 loadAt s i j = getD (entryAt s i .loads) j zeroLoad

@@ -83,12 +83,12 @@ pub extern "C" fn ribascenzo_queue_time_left(
     ensures { λ r. ⌜ (r ≡ timeLeftOf maxGap longest (queueIn (now (q .entry))) id .refusal) × (now (distance .exit) ≡ heldAfter (timeLeftOf maxGap longest (queueIn (now (q .entry))) id .refusal) (timeLeftOf maxGap longest (queueIn (now (q .entry))) id .distance .0 ∷ []) (now (distance .entry))) ⌝ }
 {
     let l = queue::time_left(words::queue_in(q, 0), id);
-    let r = l.refusal;
-    if r.number == 0 {
+    let refused = l.refusal;
+    if refused.number == 0 {
         let d = l.distance;
         *distance = [d.0];
     }
-    r
+    refused
 }
 
 #[no_mangle]

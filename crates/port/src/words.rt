@@ -25,19 +25,19 @@ ghost use Rattle.port.specs.Words.{releaseIn, kindIn, cellIn, cellWord, 
 ghost use Rattle.port.specs.Layout.{wordLimit, queueSize, loadSize, entrySize, taskSize, serverSize, tableSize, stateSize};
 
 // How many words each takes.
-pub const QUEUE: usize = 1 + Queue::CELLS;
+pub(crate) const QUEUE: usize = 1 + Queue::CELLS;
 
-pub const LOAD: usize = 2;
+const LOAD: usize = 2;
 
-pub const ENTRY: usize = 1 + LOAD * Table::ENTRIES + QUEUE;
+const ENTRY: usize = 1 + LOAD * Table::ENTRIES + QUEUE;
 
-pub const TASK: usize = 4;
+const TASK: usize = 4;
 
-pub const SERVER: usize = 4 + TASK * Table::ENTRIES;
+const SERVER: usize = 4 + TASK * Table::ENTRIES;
 
-pub const TABLE: usize = 1 + SERVER * Table::ENTRIES;
+pub(crate) const TABLE: usize = 1 + SERVER * Table::ENTRIES;
 
-pub const STATE: usize = TABLE + QUEUE + ENTRY * Table::ENTRIES;
+pub(crate) const STATE: usize = TABLE + QUEUE + ENTRY * Table::ENTRIES;
 
 // QUEUES: the number of cells, then each cell's id times 65,536 and its gap
 
@@ -59,7 +59,7 @@ fn cell_word(c: Cell) -> u32
     (c.id as u32) * 65_536 + (c.gap as u32)
 }
 
-pub fn queue_in(w: &[u32], at: usize) -> Queue
+pub(crate) fn queue_in(w: &[u32], at: usize) -> Queue
     requires { ⌜ at + queueSize ≤ length (now w) ⌝ }
     ensures { λ r. ⌜ r ≡ queueIn (drop at (now (w .entry))) ⌝ }
 {
@@ -74,7 +74,7 @@ pub fn queue_in(w: &[u32], at: usize) -> Queue
     q
 }
 
-pub fn put_queue(w: &mut [u32], at: usize, q: Queue)
+pub(crate) fn put_queue(w: &mut [u32], at: usize, q: Queue)
     requires { ⌜ (at + queueSize ≤ length (now w)) × (q .len < wordLimit) ⌝ }
     ensures { λ _. ⌜ now (w .exit) ≡ over at (queueWords q) (now (w .entry)) ⌝ }
 {
@@ -274,7 +274,7 @@ fn put_server(w: &mut [u32], at: usize, s: Server)
     }
 }
 
-pub fn table_in(w: &[u32], at: usize) -> Table
+pub(crate) fn table_in(w: &[u32], at: usize) -> Table
     requires { ⌜ at + tableSize ≤ length (now w) ⌝ }
     ensures { λ r. ⌜ r ≡ tableIn (drop at (now (w .entry))) ⌝ }
 {
@@ -289,7 +289,7 @@ pub fn table_in(w: &[u32], at: usize) -> Table
     t
 }
 
-pub fn put_table(w: &mut [u32], at: usize, t: Table)
+pub(crate) fn put_table(w: &mut [u32], at: usize, t: Table)
     requires { ⌜ (at + tableSize ≤ length (now w)) × (tableb longest mostWork t ≡ true) ⌝ }
     ensures { λ _. ⌜ now (w .exit) ≡ over at (tableWords t) (now (w .entry)) ⌝ }
 {
@@ -303,7 +303,7 @@ pub fn put_table(w: &mut [u32], at: usize, t: Table)
 
 // STATES: the table, the queue of replenishments, the entries
 
-pub fn state_in(w: &[u32; STATE]) -> State
+pub(crate) fn state_in(w: &[u32; STATE]) -> State
     ensures { λ r. ⌜ r ≡ stateIn (now (w .entry)) ⌝ }
 {
     let table = table_in(w, 0);
@@ -323,7 +323,7 @@ pub fn state_in(w: &[u32; STATE]) -> State
     }
 }
 
-pub fn put_state(w: &mut [u32; STATE], s: State)
+pub(crate) fn put_state(w: &mut [u32; STATE], s: State)
     requires { ⌜ stateb s ≡ true ⌝ }
     ensures { λ _. ⌜ now (w .exit) ≡ stateWords s ⌝ }
 {

@@ -1,67 +1,27 @@
 """The archive of crate port, held to the header and to the model: from C, from Rust, and on random bytes. It proves nothing and builds no crate.
 
-    python3 tests/port.py [ARCHIVE..]     ARCHIVE: in place of target/staticlib/libport.a and of the same calls in plain C (bench/port.c)
-
-On a processor that is not x86-64 the programs are built by x86_64-linux-gnu-gcc and run under the kit's emulator."""
+    python3 tests/port.py [ARCHIVE..]     ARCHIVE: in place of target/staticlib/libport.a and of the same calls in plain C (bench/port.c)"""
 import os
 import pathlib
-import platform
 import re
 import shutil
-import subprocess
 import sys
 import tempfile
 import time
 
 import cases
+import drivers
 import edges
 import model
 import port_calls
 import programs
 import words
+from drivers import COMPILER, NATIVE, ROOT, STRICT, TOOLS, arguments_of, compiled, must, ran, say, stop
 
-ROOT = pathlib.Path(__file__).resolve().parent.parent
 HERE = ROOT / "tests" / "port"
 INCLUDE = ROOT / "include"
 PLAIN = ROOT / "bench" / "port.c"
-NATIVE = platform.machine() == "x86_64"
-TOOLS = "" if NATIVE else "x86_64-linux-gnu-"
-COMPILER = ["gcc"] if NATIVE else ["x86_64-linux-gnu-gcc", "-static"]
-STRICT = ["-std=c99", "-pedantic", "-Wall", "-Wextra", "-Werror"]
-MOST_SECONDS = 300
 FEWEST_CALLS = 30_000
-# What the code may ask of the program that it is linked into.
-OUTSIDE = {"memcpy", "memmove", "memset", "memcmp"}
-
-
-def stop(lines):
-    """Ends the test where something is wrong."""
-    for line in lines:
-        print(f"port: {line}")
-    if lines:
-        sys.exit(1)
-
-
-def say(text):
-    print(f"port: {text}", flush=True)
-
-
-def ran(command, **more):
-    return subprocess.run([str(word) for word in command], capture_output=True, timeout=MOST_SECONDS, **more)
-
-
-def must(command, **more):
-    """What a command writes; the test ends where it fails."""
-    done = ran(command, **more)
-    if done.returncode:
-        stop([f"{' '.join(str(word) for word in command)} ends with {done.returncode}: {(done.stdout + done.stderr).decode(errors='replace')[-2000:]}"])
-    return done.stdout
-
-
-def compiled(work, sources, name, archive=None):
-    program = work / name
-    must([*COMPILER, *STRICT, "-O2", "-I", INCLUDE, "-o", program, *sources, *([archive] if archive else [])])
-    return program
 
 
 def plain_archive(work):
@@ -131,12 +91,7 @@ def number_faults():
 def symbol_faults(archive):
     """The archive has the header's functions and no other, and asks for nothing that a kernel may not have."""
     declared = set(re.findall(r"\b(ribascenzo_\w+)\(", (INCLUDE / "ribascenzo.h").read_text()))
-    lines = [line.split() for line in must([f"{TOOLS}nm", archive]).decode().splitlines()]
-    there = {line[2] for line in lines if len(line) == 3 and line[1].isupper()}
-    asked = {line[1] for line in lines if len(line) == 2 and line[0] == "U"}
-    found = [f"{name} is declared and not in the archive" for name in sorted(declared - there)]
-    found += [f"{name} is in the archive and not declared" for name in sorted(there - declared)]
-    found += [f"the archive asks for {name}" for name in sorted(asked - OUTSIDE)]
+    found = drivers.symbol_faults(archive, declared)
     if declared != {f"ribascenzo_{name}" for name in port_calls.CALLS}:
         found.append("the functions of the header are not those that the scripts call")
     return found
@@ -220,31 +175,16 @@ def pointed(call, argument):
 
 def name_of(line, byte):
     """The header's name of a byte of the arena that a call changed, or nothing."""
-    call, arguments = re.search(r": (\w+)\(([\d, ]*)\)", line).groups()
-    for argument, place in enumerate(int(part) for part in arguments.split(",") if part.strip()):
+    call, arguments = arguments_of(line)
+    for argument, place in enumerate(arguments):
         names = NAMES.get(pointed(call, argument), [])
         if place <= byte < place + 4 * len(names):
             return names[(byte - place) // 4]
     return ""
 
 
-def explained(script, said):
-    """A driver's line with the call that it names."""
-    number = re.match(r"call (\d+)", said)
-    if not number:
-        return f"{script.name}: {said}"
-    line = script.lines[int(number.group(1))]
-    byte = re.search(r"byte (\d+) of the arena", said)
-    name = name_of(line, int(byte.group(1))) if byte else ""
-    return f"{script.name}: {said}{f' ({name})' if name else ''}\n    it is {line}"
-
-
 def script_faults(program, script, path):
-    done = ran([*programs.command(program), path])
-    said = done.stdout.decode(errors="replace").strip()
-    if done.returncode == 0 and said == f"{len(script.lines)} calls":
-        return []
-    return [explained(script, said) if said else f"{script.name}: ends with {done.returncode}: {done.stderr.decode(errors='replace')[-500:]}"]
+    return drivers.script_faults(program, script, path, name_of)
 
 
 def blind(work, program):

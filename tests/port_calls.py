@@ -4,7 +4,7 @@ A script is words of 32 bits, little-endian. First the size of the arena, the me
     1, a place in the arena, a number of bytes, the bytes     the caller puts them there
     2, the call, five arguments, the number and the place of the refusal that is due, how many changes are due, and each change: a place, a number, the bytes
 Bytes are filled up with zeros to whole words. An argument that is a pointer is a place in the arena. At first a byte of the arena is its place times 37 plus
-11, modulo 256. tests/port/calls.c and tests/port/rust run a script: behind each call the whole arena must be as the script says."""
+11, modulo 256. tests/port/calls.c (by tests/script.h) and tests/port/rust run a script: behind each call the whole arena must be as the script says."""
 import collections
 import dataclasses
 import random
@@ -36,8 +36,8 @@ def packed(values):
 class Script:
     """The words of a script, a line for each of its calls, and what its calls reach."""
 
-    def __init__(self, name, size):
-        self.name, self.size = name, size
+    def __init__(self, name, size, calls=CALLS):
+        self.name, self.size, self.calls = name, size, calls
         self.out = bytearray(packed([size]))
         self.lines = []
         self.reached = collections.Counter()  # (call, refusal, clause)
@@ -53,7 +53,7 @@ class Script:
     def call(self, name, arguments, refusal, changes, clause=""):
         """`changes` are (place, bytes) of memory that is then another."""
         filled = list(arguments) + [0] * (5 - len(arguments))
-        self.out += packed([2, CALLS.index(name), *filled, refusal.number, refusal.place, len(changes)])
+        self.out += packed([2, self.calls.index(name), *filled, refusal.number, refusal.place, len(changes)])
         for at, data in changes:
             self.block(at, data)
         self.lines.append(f"{self.group}: {name}{tuple(arguments)}" + (f", {clause}" if clause else ""))

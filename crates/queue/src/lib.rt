@@ -21,12 +21,14 @@ ghost use Rattle.queue.specs.Steps.{firstCell};
 ghost use Rattle.queue.specs.Moves.{seenb, spacedb, gapsOf, sumOf, passOf, Passed, nextOf, Sought, nowhereFound, chainFor, chainTo, linkOf, linksOf, queueWith, movedTo, pushCells};
 
 // An event (id 0 to 254) or a filler (id 255), with its gap to the cell before it. The first gap counts from now.
+#[repr(C)]
 pub struct Cell {
     pub id: u8,
     pub gap: u16,
 }
 
 // The first `len` cells are the queue; those past them are zero.
+#[repr(C)]
 pub struct Queue {
     pub cells: [Cell; Queue::CELLS],
     pub len: usize,
@@ -292,7 +294,8 @@ fn all_seen(seen: [bool; Queue::IDS], reach: [Distance; Queue::HELD]) -> bool
 
 // THE SAME ON A QUEUE THAT IS LENT, for a kernel that holds one queue at a fixed address
 
-pub fn clock_in(q: &mut Queue) -> Refusal
+#[no_mangle]
+pub extern "C" fn clock_in(q: &mut Queue) -> Refusal
     ensures { λ r. ⌜ (r ≡ clockOf maxGap longest (now (q .entry)) .refusal) × (now (q .exit) ≡ clockOf maxGap longest (now (q .entry)) .queue) ⌝ }
 {
     let t = clock(*q);
@@ -301,12 +304,14 @@ pub fn clock_in(q: &mut Queue) -> Refusal
 }
 
 // What a take answers beside the queue.
+#[repr(C)]
 pub struct Took {
     pub refusal: Refusal,
     pub id: u8,
 }
 
-pub fn take_in(q: &mut Queue) -> Took
+#[no_mangle]
+pub extern "C" fn take_in(q: &mut Queue) -> Took
     ensures { λ r. ⌜ (r ≡ tookOf (takeOf maxGap longest (now (q .entry)))) × (now (q .exit) ≡ takeOf maxGap longest (now (q .entry)) .queue) ⌝ }
 {
     let t = take_apart(*q);

@@ -111,9 +111,9 @@ def unsound_rows(chance):
             yield clause, words.row(values)
     two, far = model.row_of([(3, 0), (9, 70_000)]), model.row_of([(4, 200_000)])
     for count in (33, 64, 255, 2 ** 16, 2 ** 32, 2 ** 32 + 3, 2 ** 62, 2 ** 63, TOP - 3, TOP):
-        yield "a count above 32", two._replace(count=count)
-        yield "a count above 32", model.EMPTY._replace(count=count)
-    yield "a count above 32", model.row_of([(id, 0) for id in range(32)])._replace(count=33)
+        yield "count above 32", two._replace(count=count)
+        yield "count above 32", model.EMPTY._replace(count=count)
+    yield "count above 32", model.row_of([(id, 0) for id in range(32)])._replace(count=33)
     yield "two events of one id", with_cell(two, 2, (3, 65_535))
     yield "a filler last", with_cell(two, 3, (model.FILLER, chance.choice((1, 65_535))))._replace(count=4)
     yield "a filler alone", with_cell(model.EMPTY, 0, (model.FILLER, 1))._replace(count=1)

@@ -298,9 +298,9 @@ fn all_seen(seen: [bool; Queue::IDS], reach: [Distance; Queue::HELD]) -> bool
 pub extern "C" fn clock_in(q: &mut Queue) -> Refusal
     ensures { λ r. ⌜ (r ≡ clockOf maxGap longest (now (q .entry)) .refusal) × (now (q .exit) ≡ clockOf maxGap longest (now (q .entry)) .queue) ⌝ }
 {
-    let t = clock(*q);
-    *q = t.queue;
-    t.refusal
+    let changed = clock(*q);
+    *q = changed.queue;
+    changed.refusal
 }
 
 // What a take answers beside the queue.

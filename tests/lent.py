@@ -87,8 +87,9 @@ class Lent:
 # THE ROWS
 
 # A filler at the front that goes at the next tick, or at the one behind it; a first gap at its limits; and fillers between.
-FRONT_ROWS = ([(4, 65_536)], [(4, 65_537)], [(4, 131_071)], [(4, 131_072), (5, 131_072)], [(4, 65_535), (5, 65_536)], [(4, 1), (5, 65_537)], [(4, 0), (5, 65_536)],
-              [(254, 65_536), (0, 131_072), (7, 196_608)], [(id, 65_536) for id in range(31)], [(9, 999_999)], [(9, 1_000_000)], [(9, 983_026)], [(9, 983_025)])
+FRONT_ROWS = ([(4, 65_536)], [(4, 65_537)], [(4, 131_071)], [(4, 131_072), (5, 131_072)], [(4, 65_535), (5, 65_536)], [(4, 1), (5, 65_537)],
+              [(4, 0), (5, 65_536)], [(254, 65_536), (0, 131_072), (7, 196_608)], [(id, 65_536) for id in range(31)],
+              [(9, 999_999)], [(9, 1_000_000)], [(9, 983_026)], [(9, 983_025)])
 
 
 def sound_rows(chance):
@@ -105,7 +106,7 @@ def with_cell(row, k, cell):
 
 
 def unsound_rows(chance):
-    """(clause, row): each clause of a sound queue broken, and as far as can be only that one. Of the port's rows those of which a word is no cell are left out."""
+    """(clause, row): each clause of a sound queue broken, and as far as can be only that one. Rows of the port with a word that is no cell are left out."""
     for clause, values in port_calls.broken_rows(chance):
         if max(values[1:]) <= words.LARGEST_CELL:
             yield clause, words.row(values)

@@ -97,8 +97,10 @@ again-one κs a x y e f p q = same p q
 
 -- the calls on a queue that is lent. The checker makes no `Reads` of them, so here stand the clauses that their walks prove, in any model of the logic: where
 -- the contract's `ensures` holds of two outcomes, of the answers x and y and of the parameters e and f at exit, the same is seen of both
-abbrev OneHeld : {M : Type 1} (𝓤 : URA M) (T : Ended) {B : Type 0} → Clauses 𝓤 T → ((κs : Lfts (T .signature .lifetimes)) → Res (T .signature) κs → AtExit T κs → B) → Type 1
-OneHeld 𝓤 T {B = B} c seen = (κs : Lfts (T .signature .lifetimes)) (a : Args (T .signature) κs) (g : c κs a .ghost) (x y : Res (T .signature) κs) (e f : AtExit T κs)
+abbrev OneHeld : {M : Type 1} (𝓤 : URA M) (T : Ended) {B : Type 0} → Clauses 𝓤 T
+    → ((κs : Lfts (T .signature .lifetimes)) → Res (T .signature) κs → AtExit T κs → B) → Type 1
+OneHeld 𝓤 T {B = B} c seen = (κs : Lfts (T .signature .lifetimes)) (a : Args (T .signature) κs) (g : c κs a .ghost)
+    (x y : Res (T .signature) κs) (e f : AtExit T κs)
     → ent 𝓤 (conj 𝓤 (c κs a .ensures g x e) (c κs a .ensures g y f)) (fact 𝓤 (_≡_ {A = B} (seen κs x e) (seen κs y f)))
 
 agree : {M : Type 1} (𝓤 : URA M) (φ ψ χ : Type 0) → (φ → ψ → χ) → ent 𝓤 (conj 𝓤 (fact 𝓤 φ) (fact 𝓤 ψ)) (fact 𝓤 χ)

@@ -5,10 +5,11 @@ use mathlib.Core.List.{List, [], _∷_, _++_, append-assoc, append-nil}
 use Prim.Native.Nat.{ℕ, zero, suc, _+_, _-_, _≤_}
 use native.Mathlib.Omega.{arith}
 use native.Mathlib.Nat.{zero-add, add-zero, suc-add}
-use lib.Dec.{leb, eqb}
+use lib.Dec.{eqb}
 use lib.ListN.{length, replicate}
-use borrow.Author.Tests.{eqb-true, eqb-false, ne-eqb, le-ltb}
+use borrow.Author.Tests.{eqb-true, eqb-false, le-ltb}
 use Rattle.refusal.specs.Small.{pick, padded}
+use Rattle.refusal.specs.Refusal.{none}
 use Rattle.scheduler.specs.Sound.{stateb}
 use Rattle.scheduler.specs.Tick.{tickOf}
 use Rattle.scheduler.specs.Run.{batchSize, answer, answersOf, stateAfterTicks, ticksIn}
@@ -18,11 +19,12 @@ use Rattle.scheduler.specs.declared.State.{State}
 use Rattle.scheduler.proofs.Refusals.{run-accepted}
 use Rattle.scheduler.proofs.Unchanged.{run-done}
 use Rattle.scheduler.proofs.TickSound.{ticks-sound}
-use Rattle.lines.specs.Lines.{tickLine, answerLines}
-use Rattle.desk.specs.Desk.{tickLimit, deskWith, leftAfter, ranOf}
+use Rattle.lines.specs.Lines.{tickLine, answerLines, lineText}
+use Rattle.lines.specs.declared.Line.the-variants.{Refused}
+use Rattle.desk.specs.Desk.{tickLimit, deskWith, ranWith, ranOf}
 use Rattle.desk.specs.Trace.{leftLines, behindLeft, batchesText, behindBatches}
 use Rattle.desk.specs.declared.Desk.{Desk}
-use Rattle.desk.proofs.Counts.{ticks-most}
+use Rattle.desk.proofs.Counts.{ticks-most, ticks-some}
 
 -- TICKS IN A ROW
 
@@ -59,19 +61,6 @@ lines-first k n xs ys e =
 
 -- ONE BATCH
 
--- where ticks are left, a batch has one
-ticks-some : (k : ℕ) → 1 ≤ k → 1 ≤ ticksIn k
-ticks-some k h = go (leb k batchSize)
-  where
-    go : (b : Bool) → 1 ≤ pick b k batchSize
-    go true = h
-    go false = omega arith
-
--- so behind it as many are left as it did not run
-left-behind : (k : ℕ) → leftAfter k (ticksIn k) ≡ k - ticksIn k
-left-behind zero = refl
-left-behind (suc k) = rw (ne-eqb (ticksIn (suc k)) 0 (λ z. omega (arith, ticks-some (suc k) (omega arith))))
-
 -- how many ticks it has, the row of its answers, and the run behind it
 abbrev pub size : Desk → ℕ
 size d = ticksIn (d .left)
@@ -84,10 +73,9 @@ next d = deskWith (stateAfterTicks (size d) (d .state)) (d .ran + size d) (d .le
 
 -- a batch of a sound run: the answers of single ticks, and the run behind them
 pub batch-is : (d : Desk) → stateb (d .state) ≡ true → d .ran + d .left ≤ tickLimit
-    → ranOf d ≡ record { answers = row d; desk = next d; first = d .ran; count = size d }
+    → ranOf d ≡ ranWith none (row d) (next d) (d .ran) (size d)
 unfolding ranOf
-batch-is d h l =
-    rw (le-ltb tickLimit (d .ran + d .left) l, run-done (d .state) (d .left) (run-accepted (d .state) (d .left) .1 h), left-behind (d .left))
+batch-is d h l = rw (h, le-ltb tickLimit (d .ran + d .left) l, run-done (d .state) (d .left) (run-accepted (d .state) (d .left) .1 h))
 
 module _ (d : Desk) where
   all : size d + (d .left - size d) ≡ d .left
@@ -119,18 +107,20 @@ none-left d e =
     let n : d .ran ≡ d .ran + d .left = omega arith in
     (rw e, λ i. deskWith (stateAfterTicks (sym e i) (d .state)) (n i) (e i))
 
-abbrev BatchesAre : ℕ → Desk → Type 0
-BatchesAre f d = (batchesText f d ≡ leftLines d) × (behindBatches f d ≡ behindLeft d)
+abbrev BatchesAre : ℕ → ℕ → Desk → Type 0
+BatchesAre f k d = (batchesText f k d ≡ leftLines d) × (behindBatches f d ≡ behindLeft d)
 
--- what the program writes for the ticks that are left is their lines, and the run it comes to is the run behind them
-pub batches : (f : ℕ) (d : Desk) → stateb (d .state) ≡ true → d .ran + d .left ≤ tickLimit → d .left ≤ f
-    → (batchesText f d ≡ leftLines d) × (behindBatches f d ≡ behindLeft d)
-batches zero d h l m = none-left d (omega arith)
-batches (suc f) d h l m =
-    go (eqb (d .left) 0) refl (batches f (next d) (ticks-sound (size d) (d .state) h) (omega (arith, ticks-most (d .left))))
+-- what the program writes for the ticks that are left is their lines, and the run it comes to is the run behind them; k is where their message stands
+pub batches : (f k : ℕ) (d : Desk) → stateb (d .state) ≡ true → d .ran + d .left ≤ tickLimit → d .left ≤ f
+    → (batchesText f k d ≡ leftLines d) × (behindBatches f d ≡ behindLeft d)
+batches zero k d h l m = none-left d (omega arith)
+batches (suc f) k d h l m =
+    go (eqb (d .left) 0) refl (batches f k (next d) (ticks-sound (size d) (d .state) h) (omega (arith, ticks-most (d .left))))
   where
-    go : (b : Bool) → eqb (d .left) 0 ≡ b → (next d .left ≤ f → BatchesAre f (next d)) → let r = ranOf d in
-        (pick b [] (answerLines (r .first) (r .count) (r .answers) ++ batchesText f (r .desk)) ≡ leftLines d)
+    go : (b : Bool) → eqb (d .left) 0 ≡ b → (next d .left ≤ f → BatchesAre f k (next d)) → let r = ranOf d in
+        (pick b []
+        (pick (eqb (r .refusal .number) 0) (answerLines (r .first) (r .count) (r .answers) ++ batchesText f k (r .desk)) (lineText (Refused (r .refusal .number) k)))
+        ≡ leftLines d)
         × (pick b d (behindBatches f (r .desk)) ≡ behindLeft d)
     go true e again = none-left d (eqb-true (d .left) 0 e)
     go false e again =

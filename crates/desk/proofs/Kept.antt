@@ -2,10 +2,10 @@
 use mathlib.Core.Path.{_≡_, refl}
 use mathlib.Core.Bool.{Bool, true, false}
 use mathlib.Core.List.{List}
-use Prim.Native.Nat.{ℕ, _+_, _-_, _≤_, _<_}
+use Prim.Native.Nat.{ℕ, _+_, _<_}
 use native.Mathlib.Omega.{arith}
 use lib.Dec.{ltb, eqb}
-use borrow.Author.Tests.{eqb-false, ltb-false}
+use borrow.Author.Tests.{ltb-false}
 use Rattle.refusal.specs.Small.{pick}
 use Rattle.refusal.specs.Numbers.{ticksPassed}
 use Rattle.queue.specs.Limits.{longest}
@@ -16,16 +16,17 @@ use Rattle.message.specs.Message.{readOf}
 use Rattle.message.specs.declared.Message.{Message}
 use Rattle.message.specs.declared.Message.the-variants.{Run, Arrival}
 use Rattle.scheduler.specs.Sound.{stateb}
-use Rattle.scheduler.specs.Run.{ticksIn, runOf}
+use Rattle.scheduler.specs.Run.{ticksIn}
 use Rattle.scheduler.proofs.TickSound.{arrive-sound, ticks-sound}
 use Rattle.scheduler.proofs.FreshSound.{fresh-sound, fresh-made}
 use Rattle.lines.specs.declared.Line.the-variants.{Nothing, Refused}
-use Rattle.desk.specs.Desk.{tickLimit, deskWith, met, dueTicks, openOf, askedOf, arrivedOf, doneOf, messageOf, ranOf}
+use Rattle.desk.specs.Desk.{tickLimit, deskWith, met, openOf, askedOf, arrivedOf, doneOf, messageOf, ranOf}
 use Rattle.desk.specs.Trace.{behindLeft}
 use Rattle.desk.specs.Meaning.{Kept}
 use Rattle.desk.specs.declared.Desk.{Desk}
-use Rattle.desk.proofs.Counts.{ticks-most, due-left}
+use Rattle.desk.proofs.Counts.{ticks-most, ticks-some}
 use Rattle.desk.proofs.Batches.{batch-is}
+use Rattle.desk.proofs.Refusals.{run-on-accepted}
 
 -- THE SETUP
 
@@ -46,12 +47,12 @@ opened-kept bs a = record { sound = opened-sound bs a; within = omega arith }
 module _ (d : Desk) (k : ℕ) (w : Kept d) where
   asked-kept : (n : ℕ) → Kept (askedOf d n k .desk)
   unfolding askedOf
-  asked-kept n = go (ltb tickLimit (d .ran + n)) refl
+  asked-kept n = go (ltb tickLimit (d .ran + d .left + n)) refl
     where
-      go : (b : Bool) → ltb tickLimit (d .ran + n) ≡ b
-          → Kept (pick b (met d (Refused ticksPassed k) true) (met (deskWith (d .state) (d .ran) n) Nothing false) .desk)
+      go : (b : Bool) → ltb tickLimit (d .ran + d .left + n) ≡ b
+          → Kept (pick b (met d (Refused ticksPassed k) true) (met (deskWith (d .state) (d .ran) (d .left + n)) Nothing false) .desk)
       go true e = w
-      go false e = record { sound = w .sound; within = ltb-false tickLimit (d .ran + n) e }
+      go false e = record { sound = w .sound; within = omega (arith, ltb-false tickLimit (d .ran + d .left + n) e) }
 
   arrived-kept : (i j : ℕ) → Kept (arrivedOf d i j k .desk)
   unfolding arrivedOf
@@ -63,7 +64,7 @@ module _ (d : Desk) (k : ℕ) (w : Kept d) where
 
   pub message-kept : (bs : List ℕ) → Kept (messageOf d k bs .desk)
   unfolding messageOf
-  message-kept bs = go (eqb (readOf bs .refusal .number) 0)
+  message-kept bs = rw (w .sound) (go (eqb (readOf bs .refusal .number) 0))
     where
       go : (b : Bool) → Kept (pick b (doneOf d k (readOf bs .message)) (met d (Refused (readOf bs .refusal .number) k) true) .desk)
       go true = done-kept (readOf bs .message)
@@ -82,16 +83,8 @@ module _ (d : Desk) (w : Kept d) where
   pub ticks-kept : Kept (behindLeft d)
   ticks-kept = record { sound = ticks-sound (d .left) (d .state) (w .sound); within = omega (arith, w .within) }
 
--- BATCHES END: of any run, kept or not, each leaves fewer ticks
-pub left-falls : (d : Desk) → 0 < d .left → ranOf d .desk .left < d .left
-unfolding ranOf
-left-falls d h = go (eqb n 0) refl
-  where
-    n : ℕ
-    n = runOf (d .state) (dueTicks d) .count
-
-    go : (b : Bool) → eqb n 0 ≡ b → pick b 0 (dueTicks d - n) < d .left
-    go true e = h
-    go false e =
-        let some : 1 ≤ n = omega (arith, eqb-false n 0 e) in
-        omega (arith, due-left d)
+-- BATCHES END: of any run, kept or not, each that is not refused leaves fewer ticks
+pub left-falls : (d : Desk) → ranOf d .refusal .number ≡ 0 → 0 < d .left → ranOf d .desk .left < d .left
+left-falls d a h =
+    let (s, l) = run-on-accepted d .0 a in
+    rw (batch-is d s l) (omega (arith, ticks-some (d .left) h, ticks-most (d .left)))

@@ -36,7 +36,7 @@ messages-are (suc f) d k [] w = refl
 messages-are (suc f) d k (b ∷ bs) w =
     let m = messageOf d k (take 6 (b ∷ bs)) in
     let v = message-kept d k w (take 6 (b ∷ bs)) in
-    let (text, behind) = batches (m .desk .left) (m .desk) (v .sound) (v .within) (omega arith) in
+    let (text, behind) = batches (m .desk .left) k (m .desk) (v .sound) (v .within) (omega arith) in
     rw (text, behind, messages-are f (behindLeft (m .desk)) (k + 6) (drop 6 (b ∷ bs)) (ticks-kept (m .desk) v))
 
 pub trace-is : (input : List ℕ) → traceOf input ≡ programOf input

@@ -1,20 +1,25 @@
 -- What the program does with a setup, with a message, and with the ticks that a message asks for. Document 01, "The trace program".
-use mathlib.Core.Bool.{Bool, true, false}
-use mathlib.Core.List.{List}
+use mathlib.Core.Bool.{Bool, true, false, not}
+use mathlib.Core.List.{List, [], _∷_}
 use Prim.Native.Nat.{ℕ, _+_, _-_}
 use lib.Dec.{ltb, eqb}
-use Rattle.refusal.specs.Small.{pick}
-use Rattle.refusal.specs.Numbers.{ticksPassed}
+use Rattle.refusal.specs.Small.{pick, padded}
+use Rattle.refusal.specs.Numbers.{ticksPassed, unsound}
+use Rattle.refusal.specs.Refusal.{none, Check, check, firstOf}
+use Rattle.refusal.specs.declared.Refusal.{Refusal}
 use Rattle.queue.specs.Limits.{longest}
 use Rattle.table.specs.Limits.{mostWork}
 use Rattle.setup.specs.Read.{readOf as setupOf}
 use Rattle.message.specs.Message.{readOf}
 use Rattle.message.specs.declared.Message.{Message}
 use Rattle.message.specs.declared.Message.the-variants.{Run, Arrival}
+use Rattle.scheduler.specs.Sound.{stateb}
 use Rattle.scheduler.specs.Arrive.{arrivalNumber, arriveOf}
-use Rattle.scheduler.specs.Run.{runOf}
+use Rattle.scheduler.specs.Run.{batchSize, answer, runOf}
 use Rattle.scheduler.specs.Fresh.{freshOf}
 use Rattle.scheduler.specs.declared.State.{State}
+use Rattle.scheduler.specs.declared.Choice.the-variants.{Idle}
+use Rattle.scheduler.specs.declared.Answer.{Answer}
 use Rattle.scheduler.specs.declared.Arrived.{Arrived}
 use Rattle.lines.specs.declared.Line.{Line}
 use Rattle.lines.specs.declared.Line.the-variants.{Nothing, Refused, Lost}
@@ -41,9 +46,10 @@ openOf bytes =
 
 -- A MESSAGE, whose first byte stands at k
 
--- "A message refused with 21 runs none of its ticks": its refusal stops the run
+-- its ticks come behind those that are left. "A message refused with 21 runs none of its ticks": its refusal stops the run
 unfoldable pub askedOf : Desk → ℕ → ℕ → Met
-askedOf d n k = pick (ltb tickLimit (d .ran + n)) (met d (Refused ticksPassed k) true) (met (deskWith (d .state) (d .ran) n) Nothing false)
+askedOf d n k =
+    pick (ltb tickLimit (d .ran + d .left + n)) (met d (Refused ticksPassed k) true) (met (deskWith (d .state) (d .ran) (d .left + n)) Nothing false)
 
 -- "An arrival message that is lost writes `lost S T`; an accepted one .. nothing. A refused arrival writes `refused N at K` .. and the run goes on."
 abbrev pub arrivalLine : Arrived → ℕ → ℕ → ℕ → Line
@@ -58,28 +64,33 @@ abbrev pub doneOf : Desk → ℕ → Message → Met
 doneOf d k (Run n) = askedOf d n k
 doneOf d k (Arrival i j) = arrivedOf d i j k
 
+-- "31 comes first everywhere": what a message comes to on a state that is sound, and on one that is not
+abbrev pub soundFirst : Desk → ℕ → Met → Met
+soundFirst d k m = pick (stateb (d .state)) m (met d (Refused unsound k) true)
+
 -- "Other refusals write that line and stop without `end`"
 unfoldable pub messageOf : Desk → ℕ → List ℕ → Met
 messageOf d k bytes =
     let r = readOf bytes in
-    pick (eqb (r .refusal .number) 0) (doneOf d k (r .message)) (met d (Refused (r .refusal .number) k) true)
+    soundFirst d k (pick (eqb (r .refusal .number) 0) (doneOf d k (r .message)) (met d (Refused (r .refusal .number) k) true))
 
 -- ITS TICKS, batch by batch
 
--- those that are left; a run that would pass the limit has none
-abbrev pub dueTicks : Desk → ℕ
-dueTicks d = pick (ltb tickLimit (d .ran + d .left)) 0 (d .left)
+abbrev pub ranChecks : Desk → List Check
+ranChecks d = check unsound (not (stateb (d .state))) ∷ check ticksPassed (ltb tickLimit (d .ran + d .left)) ∷ []
 
--- how many of k are left behind n; none where none could be run
-abbrev pub leftAfter : ℕ → ℕ → ℕ
-leftAfter k n = pick (eqb n 0) 0 (k - n)
+abbrev pub ranWith : Refusal → List Answer → Desk → ℕ → ℕ → Ran
+ranWith r answers d first n = record { answers = answers; desk = d; refusal = r; first = first; count = n }
+
+-- "zero in every other part", and the run as it was
+abbrev pub notRun : Refusal → Desk → Ran
+notRun r d = ranWith r (padded (answer Idle 0) batchSize []) d 0 0
+
+-- those that are left, at most as many as one run of the scheduler has
+abbrev pub nextBatch : Desk → Ran
+nextBatch d =
+    let b = runOf (d .state) (d .left) in
+    ranWith none (b .answers) (deskWith (b .state) (d .ran + b .count) (d .left - b .count)) (d .ran) (b .count)
 
 unfoldable pub ranOf : Desk → Ran
-ranOf d =
-    let b = runOf (d .state) (dueTicks d) in
-    record {
-      answers = b .answers;
-      desk = deskWith (b .state) (d .ran + b .count) (leftAfter (dueTicks d) (b .count));
-      first = d .ran;
-      count = b .count;
-    }
+ranOf d = let r = firstOf (ranChecks d) in pick (eqb (r .number) 0) (nextBatch d) (notRun r d)

@@ -35,25 +35,29 @@ traceOf input =
     (messagesText (suc (length input)) (o .desk) n (drop n input))
     (lineText (Refused (o .refusal .number) (o .refusal .place)))
 
--- what the program writes for the ticks that are left, batch after batch; f is at least their number
-abbrev pub batchesText : ℕ → Desk → List ℕ
-batchesText zero d = []
-batchesText (suc f) d =
+-- what the program writes for the ticks that are left of the message at k, batch after batch; a batch that is refused is the last. f is at least their number
+abbrev pub batchesText : ℕ → ℕ → Desk → List ℕ
+batchesText zero k d = []
+batchesText (suc f) k d =
     let r = ranOf d in
-    pick (eqb (d .left) 0) [] (answerLines (r .first) (r .count) (r .answers) ++ batchesText f (r .desk))
+    pick (eqb (d .left) 0) []
+    (pick (eqb (r .refusal .number) 0) (answerLines (r .first) (r .count) (r .answers) ++ batchesText f k (r .desk)) (lineText (Refused (r .refusal .number) k)))
 
 abbrev pub behindBatches : ℕ → Desk → Desk
 behindBatches zero d = d
 behindBatches (suc f) d = pick (eqb (d .left) 0) d (behindBatches f (ranOf d .desk))
 
--- WHAT THE PROGRAM DOES, message by message and batch by batch. proofs/Program.antt: it is the trace
+-- WHAT THE PROGRAM DOES, message by message and batch by batch. It goes on where no tick is left behind the batches: where none of them was refused.
+-- proofs/Program.antt: it is the trace
 abbrev pub programText : ℕ → Desk → ℕ → List ℕ → List ℕ
 programText zero d k bs = []
 programText (suc f) d k [] = endLine (d .ran)
 programText (suc f) d k (b ∷ bs) =
     let m = messageOf d k (take 6 (b ∷ bs)) in
     let n = m .desk .left in
-    lineText (m .line) ++ pick (m .stop) [] (batchesText n (m .desk) ++ programText f (behindBatches n (m .desk)) (k + 6) (drop 6 (b ∷ bs)))
+    let e = behindBatches n (m .desk) in
+    lineText (m .line)
+    ++ pick (m .stop) [] (batchesText n k (m .desk) ++ pick (eqb (e .left) 0) (programText f e (k + 6) (drop 6 (b ∷ bs))) [])
 
 unfoldable pub programOf : List ℕ → List ℕ
 programOf input =

@@ -4,12 +4,17 @@ use message::Message;
 use refusal::Refusal;
 use scheduler::Answer;
 use scheduler::Arrival;
+use scheduler::Choice;
 use scheduler::State;
 ghost use mathlib.Core.Path.{_≡_};
 ghost use mathlib.Core.Bool.{true, false};
-ghost use Prim.Native.Nat.{_≤_};
+ghost use lib.Dec.{eqb};
+ghost use Rattle.refusal.specs.Small.{pick};
+ghost use Rattle.refusal.specs.Numbers.{ticksPassed, unsound};
+ghost use Rattle.refusal.specs.Refusal.{refused};
+ghost use Rattle.scheduler.specs.Sound.{stateb};
 ghost use Rattle.lines.specs.declared.Line.the-variants.{Refused};
-ghost use Rattle.desk.specs.Desk.{tickLimit, deskWith, met, openOf, askedOf, arrivedOf, messageOf, dueTicks, leftAfter, ranOf};
+ghost use Rattle.desk.specs.Desk.{deskWith, met, openOf, askedOf, arrivedOf, soundFirst, messageOf, notRun, ranOf};
 
 // A run of the program: the state, how many ticks have been run, and how many of the last message's are left.
 pub struct Desk {
@@ -39,6 +44,7 @@ pub struct Met {
 pub struct Ran {
     pub answers: [Answer; State::BATCH],
     pub desk: Desk,
+    pub refusal: Refusal,
     pub first: u32,
     pub count: usize,
 }
@@ -56,14 +62,15 @@ pub fn open(setup: &[u8]) -> Opened
     }
 }
 
-// A message whose first byte stands at a place of the input; fewer than six bytes where the input ends in it.
+// A message whose first byte stands at a place of the input; fewer than six bytes where the input ends in it. Whether the state is sound is looked at once:
+// by the scheduler for an arrival, and here for any other message.
 pub fn message(d: Desk, place: u64, bytes: &[u8]) -> Met
     ensures { λ r. ⌜ r ≡ messageOf d place (now (bytes .entry)) ⌝ }
 {
     let r = message::read(bytes);
     let refusal = r.refusal;
     if refusal.number != 0 {
-        return stopped(d, refusal.number, place);
+        return unread(d, refusal.number, place);
     }
     let m = r.message;
     match m {
@@ -72,18 +79,22 @@ pub fn message(d: Desk, place: u64, bytes: &[u8]) -> Met
     }
 }
 
-// The next ticks that are left, at most a batch. A run that is past the limit has none.
+// The next ticks that are left, at most a batch.
 pub fn run_on(d: Desk) -> Ran
     ensures { λ r. ⌜ r ≡ ranOf d ⌝ }
 {
-    let k = due_ticks(d);
-    let b = scheduler::run(d.state, k);
+    if Desk::LIMIT < (d.ran as u64) + (d.left as u64) {
+        return past(d);
+    }
+    let b = scheduler::run(d.state, d.left as usize);
     let n = b.count;
     let answers = b.answers;
+    let refusal = b.refusal;
     Ran {
         answers: answers,
-        desk: with_state(b.state, d.ran + (n as u32), left_after(k, n)),
-        first: d.ran,
+        desk: with_state(b.state, d.ran + (n as u32), d.left - (n as u32)),
+        refusal: refusal,
+        first: first_of(refusal.number, d.ran),
         count: n,
     }
 }
@@ -120,23 +131,42 @@ fn goes_on(d: Desk, l: Line) -> Met
     }
 }
 
-// A number of ticks is asked for.
-fn asked(d: Desk, n: u16, place: u64) -> Met
-    ensures { λ r. ⌜ r ≡ askedOf d n place ⌝ }
+// A message that its reader refuses.
+fn unread(d: Desk, number: u8, place: u64) -> Met
+    ensures { λ r. ⌜ r ≡ soundFirst d place (met d (Refused number place) true) ⌝ }
 {
-    if Desk::LIMIT < (d.ran as u64) + (n as u64) {
-        return stopped(d, Refusal::TICKS_PASSED, place);
+    if !scheduler::sound(d.state) {
+        return stopped(d, Refusal::UNSOUND, place);
     }
-    goes_on(with_state(d.state, d.ran, n as u32), Line::Nothing)
+    stopped(d, number, place)
 }
 
-// A task's work arrives.
+// A number of ticks is asked for.
+fn asked(d: Desk, n: u16, place: u64) -> Met
+    ensures { λ r. ⌜ r ≡ soundFirst d place (askedOf d n place) ⌝ }
+{
+    if !scheduler::sound(d.state) {
+        return stopped(d, Refusal::UNSOUND, place);
+    }
+    if Desk::LIMIT < (d.ran as u64) + (d.left as u64) + (n as u64) {
+        return stopped(d, Refusal::TICKS_PASSED, place);
+    }
+    goes_on(
+        with_state(d.state, d.ran, d.left + (n as u32)),
+        Line::Nothing,
+    )
+}
+
+// A task's work arrives. A refused call hands the state back as it was.
 fn arrived(d: Desk, server: u8, task: u8, place: u64) -> Met
-    ensures { λ r. ⌜ r ≡ arrivedOf d server task place ⌝ }
+    ensures { λ r. ⌜ r ≡ soundFirst d place (arrivedOf d server task place) ⌝ }
 {
     let a = scheduler::arrive(d.state, server, task);
     let next = with_state(a.state, d.ran, d.left);
     let refusal = a.refusal;
+    if refusal.number == Refusal::UNSOUND {
+        return stopped(next, Refusal::UNSOUND, place);
+    }
     if refusal.number != 0 {
         return goes_on(next, Line::Refused(refusal.number, place));
     }
@@ -147,22 +177,38 @@ fn arrived(d: Desk, server: u8, task: u8, place: u64) -> Met
     }
 }
 
-fn due_ticks(d: Desk) -> usize
-    ensures { λ r. ⌜ r ≡ dueTicks d ⌝ }
+// A run whose ticks that are left would pass the limit.
+fn past(d: Desk) -> Ran
+    ensures { λ r. ⌜ r ≡ pick (stateb (d .state)) (notRun (refused ticksPassed 0) d) (notRun (refused unsound 0) d) ⌝ }
 {
-    if Desk::LIMIT < (d.ran as u64) + (d.left as u64) {
-        return 0;
+    if !scheduler::sound(d.state) {
+        return not_run(d, Refusal::UNSOUND);
     }
-    d.left as usize
+    not_run(d, Refusal::TICKS_PASSED)
 }
 
-// How many of k ticks are left when n have been run; none where none could be.
-fn left_after(k: usize, n: usize) -> u32
-    requires { ⌜ (n ≤ k) × (k ≤ tickLimit) ⌝ }
-    ensures { λ r. ⌜ r ≡ leftAfter k n ⌝ }
+fn not_run(d: Desk, number: u8) -> Ran
+    ensures { λ r. ⌜ r ≡ notRun (refused number 0) d ⌝ }
 {
-    if n == 0 {
+    let zero = Answer {
+        choice: Choice::Idle,
+        handled: 0,
+    };
+    Ran {
+        answers: [zero; State::BATCH],
+        desk: d,
+        refusal: Refusal::numbered(number),
+        first: 0,
+        count: 0,
+    }
+}
+
+// The number of a batch's first tick; 0 where the batch is refused.
+fn first_of(refusal: u8, ran: u32) -> u32
+    ensures { λ r. ⌜ r ≡ pick (eqb refusal 0) ran 0 ⌝ }
+{
+    if refusal != 0 {
         return 0;
     }
-    (k - n) as u32
+    ran
 }

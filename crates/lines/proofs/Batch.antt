@@ -1,16 +1,21 @@
--- Laws of the lines of a batch: those of one answer more end with its line, and where there are fewer answers than asked for all are written. Assumes nothing.
+-- Laws of the lines of a batch: those of one answer more end with its line, where there are fewer answers than asked for all are written, and no line is
+-- longer than its room. Assumes nothing.
 use mathlib.Core.Path.{_≡_, refl, sym, ap, _∙_}
 use mathlib.Core.Bool.{Bool, true, false}
 use mathlib.Core.List.{List, [], _∷_, _++_, append-assoc, append-nil}
-use Prim.Native.Nat.{ℕ, zero, suc, _+_, _≤_, _<_}
+use Prim.Native.Nat.{ℕ, zero, suc, _+_, _*_, _≤_, _<_}
 use native.Mathlib.Nat.{add-zero, le-of-suc-le-suc, not-suc-le-zero}
 use native.Mathlib.Omega.{arith}
 use lib.Dec.{leb}
-use lib.ListN.{length, getD}
+use lib.ListN.{length, length-append, getD}
 use borrow.Author.Tests.{leb-true, leb-false}
 use Rattle.refusal.specs.Small.{pick}
+use Rattle.scheduler.specs.declared.Choice.{Choice}
+use Rattle.scheduler.specs.declared.Choice.the-variants.{Idle, Burning, Running}
 use Rattle.scheduler.specs.declared.Answer.{Answer}
-use Rattle.lines.specs.Lines.{tickLine, answerLines}
+use Rattle.lines.specs.Decimal.{decimal}
+use Rattle.lines.specs.Lines.{newline, room, markText, dashText, choiceText, tickLine, answerLines}
+use Rattle.lines.proofs.Decimals.{decimal-length}
 
 -- one line more
 pub lines-more : (n i : ℕ) (xs : List Answer) (d : Answer) → i < length xs
@@ -45,3 +50,46 @@ least-most k m = go (leb k m) refl
     go : (b : Bool) → leb k m ≡ b → pick b k m ≤ m
     go true e = leb-true k m e
     go false e = omega arith
+
+-- HOW LONG THEY ARE
+
+-- the length of a line, where the choice is known
+pub line-length : (n : ℕ) (c d : Choice) → c ≡ d → length (tickLine n c) ≡ length (decimal n) + length (choiceText d)
+line-length n c d e = rw e (length-append (decimal n) (choiceText d))
+
+pub burning-length : (i : ℕ) → length (choiceText (Burning i)) ≡ length (markText i) + 3
+burning-length i = length-append (markText i) (dashText ++ (newline ∷ []))
+
+pub running-length : (i j : ℕ) → length (choiceText (Running i j)) ≡ length (markText i) + (length (markText j) + 1)
+running-length i j = simp length-append
+
+choice-length : (c : Choice) → length (choiceText c) ≤ 43
+choice-length Idle = omega arith
+choice-length (Burning i) = simp length-append (omega (arith, decimal-length i))
+choice-length (Running i j) = simp length-append (omega (arith, decimal-length i, decimal-length j))
+
+-- no line is longer than its room
+pub tick-length : (n : ℕ) (c : Choice) → length (tickLine n c) ≤ room
+tick-length n c = simp length-append (omega (arith, decimal-length n, choice-length c))
+
+-- nor are k of them
+pub lines-length : (n k : ℕ) (xs : List Answer) → length (answerLines n k xs) ≤ room * k
+lines-length n zero xs = omega arith
+lines-length n (suc k) [] = omega arith
+lines-length n (suc k) (x ∷ xs) =
+    rw (length-append (tickLine n (x .choice)) (answerLines (suc n) k xs)) (omega (arith, tick-length n (x .choice), lines-length (suc n) k xs))
+
+-- those of the first i are no longer than those of more
+pub lines-fewer : (n i k : ℕ) (xs : List Answer) → i ≤ k → length (answerLines n i xs) ≤ length (answerLines n k xs)
+lines-fewer n zero k xs h = omega arith
+lines-fewer n (suc i) zero xs h = absurd (not-suc-le-zero h)
+lines-fewer n (suc i) (suc k) [] h = omega arith
+lines-fewer n (suc i) (suc k) (x ∷ xs) h = simp length-append (omega (arith, lines-fewer (suc n) i k xs (le-of-suc-le-suc h)))
+
+-- and with the next line they are still among those of k
+pub lines-next : (n i k : ℕ) (xs : List Answer) (d : Answer) → i < k → i < length xs
+    → length (answerLines n i xs) + length (tickLine (n + i) (getD xs i d .choice)) ≤ length (answerLines n k xs)
+lines-next n i k xs d h l =
+    let line = tickLine (n + i) (getD xs i d .choice) in
+    let e : length (answerLines n (suc i) xs) ≡ length (answerLines n i xs) + length line = rw (lines-more n i xs d l) (length-append (answerLines n i xs) line) in
+    omega (arith, lines-fewer n (suc i) k xs h)

@@ -9,11 +9,15 @@ use native.Mathlib.Omega.{arith}
 use lib.Dec.{leb}
 use lib.ListN.{length, take, drop, getD, set, length-append, length-set, length-drop}
 use lib.Seq.{length-take-le, take-set-le, drop-at, drop-cons, drop-length, set-split}
-use borrow.Author.Tests.{leb-true, le-leb, not-true, not-false}
+use borrow.Author.Tests.{leb-true, leb-false, lt-ltb, le-ltb, not-true, not-false}
+use Rattle.refusal.specs.Numbers.{bufferShort}
+use Rattle.refusal.specs.Refusal.{refused, none}
 use Rattle.field.specs.Field.{over}
-use Rattle.field.proofs.Fields.{over-fits, over-length, over-nil, over-over, over-sets}
+use Rattle.field.specs.Write.{writtenWith}
+use Rattle.field.specs.declared.Written.{Written}
+use Rattle.field.proofs.Fields.{over-fits, over-length, over-nil, over-over, over-past, over-sets}
 use Rattle.lines.specs.Decimal.{digit}
-use Rattle.lines.specs.Lines.{behind, bufferWith}
+use Rattle.lines.specs.Lines.{putOf}
 use Rattle.lines.proofs.Decimals.{lowest, lowest-length}
 
 -- PIECE BEHIND PIECE
@@ -71,23 +75,29 @@ puts-five at vs ws xs ys zs buf {n = n} {start = start} h one two three four fiv
     let k : at + (length vs + length (ws ++ (xs ++ (ys ++ zs)))) ≤ length buf = simp length-append h in
     puts-two at vs (ws ++ (xs ++ (ys ++ zs))) buf k one (puts-four n ws xs ys zs start (omega arith) two three four five)
 
--- WHERE THERE IS ROOM, or not: what each line ensures
-abbrev pub Stands : ℕ → ℕ → List ℕ → List ℕ → ℕ → List ℕ → Type 0
-Stands most at text buf r after = (r ≡ behind most at text buf) × (after ≡ bufferWith most at text buf)
+-- WHERE THERE IS ROOM, or not: what each writer ensures of its answer w and of the buffer
+abbrev pub Stands : ℕ → List ℕ → List ℕ → Written → List ℕ → Type 0
+Stands at text buf w after = (w ≡ putOf at text buf) × (after ≡ over at text buf)
 
--- f is the answer of `fits`
-module _ (most at : ℕ) (buf : List ℕ) (f : Bool) (answer : f ≡ leb (at + most) (length buf)) where
+-- f is the answer of `fits` for n bytes
+module _ (at n : ℕ) (buf : List ℕ) (f : Bool) (answer : f ≡ leb (at + n) (length buf)) where
   -- past the test there is room
-  pub has-room : not f ≡ false → at + most ≤ length buf
-  has-room h = leb-true (at + most) (length buf) (sym answer ∙ not-false f h)
+  pub has-room : not f ≡ false → at + n ≤ length buf
+  has-room h = leb-true (at + n) (length buf) (sym answer ∙ not-false f h)
 
-  -- where it fails, nothing is written
-  pub stands-not : (text : List ℕ) → not f ≡ true → Stands most at text buf at buf
-  stands-not text h = let e : leb (at + most) (length buf) ≡ false = sym answer ∙ not-true f h in rw e (refl, refl)
+  -- where it fails, there is none
+  pub no-room : not f ≡ true → length buf < at + n
+  no-room h = leb-false (at + n) (length buf) (sym answer ∙ not-true f h)
 
--- with room, what is put stands there
-pub stands : (most at : ℕ) (text buf : List ℕ) {r : ℕ} {after : List ℕ} → at + most ≤ length buf → Puts at text buf r after → Stands most at text buf r after
-stands most at text buf h p = rw (le-leb (at + most) (length buf) h) p
+module _ (at : ℕ) (text buf : List ℕ) {w : Written} where
+  -- without room the writer is refused, and nothing is written
+  pub stands-not : length buf < at + length text → w ≡ writtenWith (refused bufferShort 0) 0 → Stands at text buf w buf
+  stands-not h e = rw (lt-ltb (length buf) (at + length text) h) (e, sym (over-past at text buf h))
+
+  -- with room, what is put stands there, and its length is answered
+  pub stands : (n : ℕ) {r : ℕ} {after : List ℕ} → at + length text ≤ length buf → n ≡ length text → Puts at text buf r after → w ≡ writtenWith none n
+      → Stands at text buf w after
+  stands n h l p e = rw (le-ltb (length buf) (at + length text) h, ← l) (e, p .1)
 
 -- THE FIRST BYTE FIRST, and the rest behind it
 pub over-first : (at x : ℕ) (xs buf : List ℕ) → at + suc (length xs) ≤ length buf → over at (x ∷ xs) buf ≡ over (suc at) xs (set buf at x)

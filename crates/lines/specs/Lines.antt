@@ -2,10 +2,12 @@
 -- lines say.
 use mathlib.Core.List.{List, [], _∷_, _++_}
 use Prim.Native.Nat.{ℕ, zero, suc, _+_, _*_}
-use lib.Dec.{leb}
+use lib.Dec.{ltb}
 use lib.ListN.{length}
-use Rattle.refusal.specs.Small.{pick}
-use Rattle.field.specs.Field.{over}
+use Rattle.refusal.specs.Numbers.{bufferShort}
+use Rattle.refusal.specs.Refusal.{Check, check, firstOf}
+use Rattle.field.specs.Write.{written}
+use Rattle.field.specs.declared.Written.{Written}
 use Rattle.scheduler.specs.Run.{batchSize}
 use Rattle.scheduler.specs.declared.Choice.{Choice}
 use Rattle.scheduler.specs.declared.Choice.the-variants.{Idle, Burning, Running}
@@ -61,18 +63,19 @@ lineText (Lost i j) = (108 ∷ 111 ∷ 115 ∷ 116 ∷ []) ++ (markText i ++ (ma
 abbrev pub endLine : ℕ → List ℕ
 endLine n = (101 ∷ 110 ∷ 100 ∷ space ∷ []) ++ (decimal n ++ (newline ∷ []))
 
--- WHERE IT STANDS: from a place on, where as much room is left as such a thing may take; elsewhere nothing is written
+-- WHERE IT STANDS: from a place on (`over` of crate field: where it does not fit, nothing is written)
 
+-- no line is longer, and no batch of them
 abbrev pub room : ℕ
-room = 48
+room = 64
 
 abbrev pub batchRoom : ℕ
 batchRoom = room * batchSize
 
--- the place behind it
-abbrev pub behind : ℕ → ℕ → List ℕ → List ℕ → ℕ
-behind most at text buf = pick (leb (at + most) (length buf)) (at + length text) at
+-- "32: buffer too short for what is written", for a buffer of n bytes
+abbrev pub putChecks : ℕ → List ℕ → ℕ → List Check
+putChecks at text n = check bufferShort (ltb n (at + length text)) ∷ []
 
--- what the buffer holds
-abbrev pub bufferWith : ℕ → ℕ → List ℕ → List ℕ → List ℕ
-bufferWith most at text buf = pick (leb (at + most) (length buf)) (over at text buf) buf
+-- what its writer answers: how many bytes it wrote
+abbrev pub putOf : ℕ → List ℕ → List ℕ → Written
+putOf at text buf = written (firstOf (putChecks at text (length buf))) text

@@ -1,5 +1,7 @@
-// What the trace program writes, line by line: document 01, "The trace program". Each function puts one thing into a lent buffer from a place on and answers
-// the place behind it. Where less room is left than the thing may take, it writes nothing and answers the place it was given.
+// What the trace program writes, line by line: document 01, "The trace program". Each public function puts one thing into a lent buffer from a place on and
+// answers how many bytes it wrote. Where the thing does not fit it is refused with 32, and no byte is changed.
+use field::Written;
+use refusal::Refusal;
 use scheduler::Answer;
 use scheduler::Choice;
 use scheduler::State;
@@ -10,10 +12,11 @@ ghost use lib.Dec.{leb};
 ghost use lib.ListN.{length};
 ghost use Rattle.refusal.specs.Small.{pick};
 ghost use Rattle.field.specs.Field.{over};
-ghost use Rattle.lines.specs.Decimal.{mostDigits, decimal};
-ghost use Rattle.lines.specs.Lines.{space, minus, room, batchRoom, headerText, markText, choiceText, tickLine, answerLines, lineText, endLine, behind, bufferWith};
+ghost use Rattle.lines.specs.Decimal.{decimal};
+ghost use Rattle.lines.specs.Lines.{space, minus, headerText, markText, choiceText, tickLine, answerLines, lineText, endLine, putOf};
+ghost use Rattle.scheduler.specs.Run.{batchSize};
 ghost use Rattle.scheduler.specs.declared.Choice.the-variants.{Idle, Burning, Running};
-ghost use Rattle.lines.specs.declared.Line.the-variants.{Refused, Lost};
+ghost use Rattle.lines.specs.declared.Line.the-variants.{Nothing, Refused, Lost};
 
 // What a message makes the program write beside its ticks.
 pub enum Line {
@@ -23,50 +26,51 @@ pub enum Line {
 }
 
 // The most bytes that a line takes, and the lines of a batch.
-pub const ROOM: usize = 48;
+pub const ROOM: usize = 64;
 
 pub const BATCH_ROOM: usize = ROOM * State::BATCH;
 
 const MOST_DIGITS: usize = 20;
 
 // `tick server task`
-pub fn header(out: &mut [u8], at: usize) -> usize
-    ensures { λ r. ⌜ (r ≡ behind room at headerText (now (out .entry))) × (now (out .exit) ≡ bufferWith room at headerText (now (out .entry))) ⌝ }
+pub fn header(out: &mut [u8], at: usize) -> Written
+    ensures { λ r. ⌜ (r ≡ putOf at headerText (now (out .entry))) × (now (out .exit) ≡ over at headerText (now (out .entry))) ⌝ }
 {
-    if !fits(out, at, ROOM) {
-        return at;
+    if !fits(out, at, 17) {
+        return Written::refused(Refusal::BUFFER_SHORT);
     }
-    word(out, at, b"tick server task\n")
+    word(out, at, b"tick server task\n");
+    Written::whole(17)
 }
 
 // The line of a message.
-pub fn message_line(out: &mut [u8], at: usize, l: Line) -> usize
-    ensures { λ r. ⌜ (r ≡ behind room at (lineText l) (now (out .entry))) × (now (out .exit) ≡ bufferWith room at (lineText l) (now (out .entry))) ⌝ }
+pub fn message_line(out: &mut [u8], at: usize, l: Line) -> Written
+    ensures { λ r. ⌜ (r ≡ putOf at (lineText l) (now (out .entry))) × (now (out .exit) ≡ over at (lineText l) (now (out .entry))) ⌝ }
 {
-    if !fits(out, at, ROOM) {
-        return at;
-    }
     match l {
-        Line::Nothing => at,
+        Line::Nothing => nothing(out, at),
         Line::Refused(n, place) => refused(out, at, n, place),
         Line::Lost(server, task) => lost(out, at, server, task),
     }
 }
 
-// A line for each of the first `count` answers (all where there are fewer), whose ticks are numbered from `first` on.
+// A line for each of the first `count` answers (all where there are fewer), whose ticks are numbered from `first` on. How long the lines are is looked at
+// only where they might not fit.
 pub fn ticks(
     out: &mut [u8],
     at: usize,
     first: u32,
     answers: [Answer; State::BATCH],
     count: usize,
-) -> usize
-    ensures { λ r. ⌜ (r ≡ behind batchRoom at (answerLines first count answers) (now (out .entry))) × (now (out .exit) ≡ bufferWith batchRoom at (answerLines first count answers) (now (out .entry))) ⌝ }
+) -> Written
+    ensures { λ r. ⌜ (r ≡ putOf at (answerLines first count answers) (now (out .entry))) × (now (out .exit) ≡ over at (answerLines first count answers) (now (out .entry))) ⌝ }
 {
-    if !fits(out, at, BATCH_ROOM) {
-        return at;
-    }
     let n = least(count, State::BATCH);
+    if !fits(out, at, BATCH_ROOM) {
+        if !fits(out, at, batch_size(first, answers, n)) {
+            return Written::refused(Refusal::BUFFER_SHORT);
+        }
+    }
     let mut p = at;
     let mut i: usize = 0;
     while i < n {
@@ -75,22 +79,64 @@ pub fn ticks(
         p = tick(out, p, (first as u64) + (i as u64), c);
         i = i + 1;
     }
-    p
+    Written::whole(p - at)
 }
 
 // `end` and the number of ticks.
-pub fn end(out: &mut [u8], at: usize, n: u32) -> usize
-    ensures { λ r. ⌜ (r ≡ behind room at (endLine n) (now (out .entry))) × (now (out .exit) ≡ bufferWith room at (endLine n) (now (out .entry))) ⌝ }
+pub fn end(out: &mut [u8], at: usize, n: u32) -> Written
+    ensures { λ r. ⌜ (r ≡ putOf at (endLine n) (now (out .entry))) × (now (out .exit) ≡ over at (endLine n) (now (out .entry))) ⌝ }
 {
-    if !fits(out, at, ROOM) {
-        return at;
+    let size = 5 + places(n as u64);
+    if !fits(out, at, size) {
+        return Written::refused(Refusal::BUFFER_SHORT);
     }
     let p = word(out, at, b"end ");
     let q = number(out, p, n as u64);
-    put(out, q, b'\n')
+    put(out, q, b'\n');
+    Written::whole(size)
 }
 
-// LINES, where there is room
+// THE LINES OF MESSAGES
+
+fn nothing(out: &mut [u8], at: usize) -> Written
+    ensures { λ r. ⌜ (r ≡ putOf at (lineText Nothing) (now (out .entry))) × (now (out .exit) ≡ over at (lineText Nothing) (now (out .entry))) ⌝ }
+{
+    if !fits(out, at, 0) {
+        return Written::refused(Refusal::BUFFER_SHORT);
+    }
+    Written::whole(0)
+}
+
+fn refused(out: &mut [u8], at: usize, n: u8, place: u64) -> Written
+    ensures { λ r. ⌜ (r ≡ putOf at (lineText (Refused n place)) (now (out .entry))) × (now (out .exit) ≡ over at (lineText (Refused n place)) (now (out .entry))) ⌝ }
+{
+    let size = 12 + mark_size(n) + places(place);
+    if !fits(out, at, size) {
+        return Written::refused(Refusal::BUFFER_SHORT);
+    }
+    let a = word(out, at, b"refused");
+    let b = mark(out, a, n);
+    let c = word(out, b, b" at ");
+    let d = number(out, c, place);
+    put(out, d, b'\n');
+    Written::whole(size)
+}
+
+fn lost(out: &mut [u8], at: usize, server: u8, task: u8) -> Written
+    ensures { λ r. ⌜ (r ≡ putOf at (lineText (Lost server task)) (now (out .entry))) × (now (out .exit) ≡ over at (lineText (Lost server task)) (now (out .entry))) ⌝ }
+{
+    let size = 5 + mark_size(server) + mark_size(task);
+    if !fits(out, at, size) {
+        return Written::refused(Refusal::BUFFER_SHORT);
+    }
+    let a = word(out, at, b"lost");
+    let b = mark(out, a, server);
+    let c = mark(out, b, task);
+    put(out, c, b'\n');
+    Written::whole(size)
+}
+
+// HOW LONG THEY ARE
 
 fn fits(out: &[u8], at: usize, n: usize) -> bool
     ensures { λ r. ⌜ r ≡ leb (at + n) (length (now (out .entry))) ⌝ }
@@ -110,10 +156,43 @@ fn least(a: usize, b: usize) -> usize
     b
 }
 
-// The line of one tick: its number, the server and the task.
+fn batch_size(first: u32, answers: [Answer; State::BATCH], n: usize) -> usize
+    requires { ⌜ n ≤ batchSize ⌝ }
+    ensures { λ r. ⌜ r ≡ length (answerLines first n answers) ⌝ }
+{
+    let mut size: usize = 0;
+    let mut i: usize = 0;
+    while i < n {
+        let a = answers[i];
+        let c = a.choice;
+        size = size + tick_size((first as u64) + (i as u64), c);
+        i = i + 1;
+    }
+    size
+}
+
+fn tick_size(n: u64, c: Choice) -> usize
+    ensures { λ r. ⌜ r ≡ length (tickLine n c) ⌝ }
+{
+    let p = places(n);
+    match c {
+        Choice::Idle => p + 5,
+        Choice::Burning(server) => p + 3 + mark_size(server),
+        Choice::Running(server, task) => p + 1 + mark_size(server) + mark_size(task),
+    }
+}
+
+fn mark_size(n: u8) -> usize
+    ensures { λ r. ⌜ r ≡ length (markText n) ⌝ }
+{
+    1 + places(n as u64)
+}
+
+// THE LINE OF ONE TICK, where there is room for it: its number, the server and the task
+
 fn tick(out: &mut [u8], at: usize, n: u64, c: Choice) -> usize
-    requires { ⌜ at + room ≤ length (now out) ⌝ }
-    ensures { λ r. ⌜ (r ≡ at + length (tickLine n c)) × (now (out .exit) ≡ over at (tickLine n c) (now (out .entry))) × (r ≤ at + room) ⌝ }
+    requires { ⌜ at + length (tickLine n c) ≤ length (now out) ⌝ }
+    ensures { λ r. ⌜ (r ≡ at + length (tickLine n c)) × (now (out .exit) ≡ over at (tickLine n c) (now (out .entry))) ⌝ }
 {
     let p = number(out, at, n);
     match c {
@@ -133,7 +212,7 @@ fn idle(out: &mut [u8], at: usize) -> usize
 }
 
 fn burning(out: &mut [u8], at: usize, server: u8) -> usize
-    requires { ⌜ at + 28 ≤ length (now out) ⌝ }
+    requires { ⌜ at + (length (markText server) + 3) ≤ length (now out) ⌝ }
     ensures { λ r. ⌜ (r ≡ at + length (choiceText (Burning server))) × (now (out .exit) ≡ over at (choiceText (Burning server)) (now (out .entry))) ⌝ }
 {
     let a = mark(out, at, server);
@@ -142,33 +221,12 @@ fn burning(out: &mut [u8], at: usize, server: u8) -> usize
 }
 
 fn running(out: &mut [u8], at: usize, server: u8, task: u8) -> usize
-    requires { ⌜ at + 28 ≤ length (now out) ⌝ }
+    requires { ⌜ at + (length (markText server) + (length (markText task) + 1)) ≤ length (now out) ⌝ }
     ensures { λ r. ⌜ (r ≡ at + length (choiceText (Running server task))) × (now (out .exit) ≡ over at (choiceText (Running server task)) (now (out .entry))) ⌝ }
 {
     let a = mark(out, at, server);
     let b = mark(out, a, task);
     put(out, b, b'\n')
-}
-
-fn refused(out: &mut [u8], at: usize, n: u8, place: u64) -> usize
-    requires { ⌜ at + room ≤ length (now out) ⌝ }
-    ensures { λ r. ⌜ (r ≡ at + length (lineText (Refused n place))) × (now (out .exit) ≡ over at (lineText (Refused n place)) (now (out .entry))) ⌝ }
-{
-    let a = word(out, at, b"refused");
-    let b = mark(out, a, n);
-    let c = word(out, b, b" at ");
-    let d = number(out, c, place);
-    put(out, d, b'\n')
-}
-
-fn lost(out: &mut [u8], at: usize, server: u8, task: u8) -> usize
-    requires { ⌜ at + room ≤ length (now out) ⌝ }
-    ensures { λ r. ⌜ (r ≡ at + length (lineText (Lost server task))) × (now (out .exit) ≡ over at (lineText (Lost server task)) (now (out .entry))) ⌝ }
-{
-    let a = word(out, at, b"lost");
-    let b = mark(out, a, server);
-    let c = mark(out, b, task);
-    put(out, c, b'\n')
 }
 
 // PIECES
@@ -205,7 +263,7 @@ fn dash(out: &mut [u8], at: usize) -> usize
 
 // A space and a number of a byte, which is mostly one digit.
 fn mark(out: &mut [u8], at: usize, n: u8) -> usize
-    requires { ⌜ at + 21 ≤ length (now out) ⌝ }
+    requires { ⌜ at + length (markText n) ≤ length (now out) ⌝ }
     ensures { λ r. ⌜ (r ≡ at + length (markText n)) × (now (out .exit) ≡ over at (markText n) (now (out .entry))) ⌝ }
 {
     out[at] = b' ';
@@ -218,7 +276,7 @@ fn mark(out: &mut [u8], at: usize, n: u8) -> usize
 
 // The decimal digits of n, with no leading zero.
 fn number(out: &mut [u8], at: usize, n: u64) -> usize
-    requires { ⌜ at + mostDigits ≤ length (now out) ⌝ }
+    requires { ⌜ at + length (decimal n) ≤ length (now out) ⌝ }
     ensures { λ r. ⌜ (r ≡ at + length (decimal n)) × (now (out .exit) ≡ over at (decimal n) (now (out .entry))) ⌝ }
 {
     let end = at + places(n);

@@ -1,11 +1,13 @@
 // The trace program of document 01. It reads standard input to its end and writes the trace. Crate `desk` decides what a message does, crate `lines` has what a
 // line says; here bytes are read, handed over and written, in large pieces.
 use desk::Desk;
+use field::Written;
 use libc::STDIN_FILENO;
 use libc::STDOUT_FILENO;
 use lines::Line;
 use message::Message;
 use std::num::wrapping_add_u64;
+use std::num::wrapping_add_usize;
 ghost use Prim.Native.Nat.{_<_, _≤_};
 
 // The bytes of messages that are read at a time: whole messages.
@@ -65,7 +67,23 @@ fn spare(out: &[u8], at: usize) -> Space {
     }
 }
 
-// The ticks that are left, batch after batch.
+// How far the buffer is filled behind what was written from a place on. A line that found no room ends the program: `spare` keeps that from happening.
+fn behind(at: usize, w: Written) -> Space {
+    let refusal = w.refusal;
+    Space {
+        at: wrapping_add_usize(at, w.length),
+        going: refusal.number == 0,
+    }
+}
+
+// Writes out what the buffer holds and a refusal's line behind it: the program's last.
+fn refuse(out: &mut [u8], at: usize, number: u8, place: u64) {
+    let w = lines::message_line(out, at, Line::Refused(number, place));
+    let s = behind(at, w);
+    write(out, s.at);
+}
+
+// The ticks that are left of the message at a place, batch after batch. The next message stands behind it.
 fn ticks(out: &mut [u8], desk: Desk, place: u64, from: usize) -> Run {
     let mut d = desk;
     let mut at = from;
@@ -75,11 +93,20 @@ fn ticks(out: &mut [u8], desk: Desk, place: u64, from: usize) -> Run {
             return with(d, place, 0, false);
         }
         let b = desk::run_on(d);
-        let answers = b.answers;
-        at = lines::ticks(out, s.at, b.first, answers, b.count);
+        let refusal = b.refusal;
         d = b.desk;
+        if refusal.number != 0 {
+            refuse(out, s.at, refusal.number, place);
+            return with(d, place, 0, false);
+        }
+        let answers = b.answers;
+        let t = behind(s.at, lines::ticks(out, s.at, b.first, answers, b.count));
+        if !t.going {
+            return with(d, place, 0, false);
+        }
+        at = t.at;
     }
-    with(d, place, at, true)
+    with(d, wrapping_add_u64(place, Message::LENGTH as u64), at, true)
 }
 
 fn one_message(bytes: &[u8], out: &mut [u8], r: Run) -> Run {
@@ -90,18 +117,16 @@ fn one_message(bytes: &[u8], out: &mut [u8], r: Run) -> Run {
     }
     let m = desk::message(d, r.place, bytes);
     let l = m.line;
-    let at = lines::message_line(out, s.at, l);
+    let t = behind(s.at, lines::message_line(out, s.at, l));
     let next = m.desk;
     if m.stop {
-        write(out, at);
+        write(out, t.at);
         return with(next, r.place, 0, false);
     }
-    ticks(
-        out,
-        next,
-        wrapping_add_u64(r.place, Message::LENGTH as u64),
-        at,
-    )
+    if !t.going {
+        return with(next, r.place, 0, false);
+    }
+    ticks(out, next, r.place, t.at)
 }
 
 // The messages of a chunk; the last may be cut.
@@ -124,8 +149,8 @@ fn finish(out: &mut [u8], r: Run) {
     let s = spare(out, r.at);
     if s.going {
         let d = r.desk;
-        let at = lines::end(out, s.at, d.ran);
-        write(out, at);
+        let t = behind(s.at, lines::end(out, s.at, d.ran));
+        write(out, t.at);
     }
 }
 
@@ -172,22 +197,20 @@ fn read_setup(input: &mut [u8]) -> usize {
     head + io::read_full(STDIN_FILENO, &mut input[two..stated])
 }
 
-fn refuse(out: &mut [u8], at: usize, number: u8, place: usize) {
-    let end = lines::message_line(out, at, Line::Refused(number, place as u64));
-    write(out, end);
-}
-
 fn program(input: &mut [u8], out: &mut [u8]) {
     let n = least(read_setup(input), input.len());
     let o = desk::open(&input[..n]);
-    let at = lines::header(out, 0);
+    let t = behind(0, lines::header(out, 0));
+    if !t.going {
+        return;
+    }
     let r = o.refusal;
     if r.number != 0 {
-        refuse(out, at, r.number, r.place);
+        refuse(out, t.at, r.number, r.place as u64);
         return;
     }
     let d = o.desk;
-    messages(input, out, with(d, n as u64, at, true));
+    messages(input, out, with(d, n as u64, t.at, true));
 }
 
 fn main() {

@@ -8,14 +8,15 @@ use Rattle.desk.proofs.message.Tie as tie
 read-requires : tie.Need-read-requires
 read-requires c κs = search needs
 
-stopped-requires : tie.Need-stopped-requires
-stopped-requires c κs = search needs
+unread-requires : tie.Need-unread-requires
+unread-requires c κs = search needs
 
 returns : tie.Need-returns
 unfolding messageOf
 returns c =
-    let k = c .before .before .before .before in
-    rw (c .stopped .ensures, ← k .read .ensures, ne-eqb (k .read .result .refusal .number) 0 (c .before .if1 .taken))
+    let t = c .before in
+    let r = t .before .before .before .read in
+    rw (c .unread .ensures, ← r .ensures, ne-eqb (r .result .refusal .number) 0 (t .if1 .taken))
 
 enum-known-m : tie.Need-enum-known-m
 enum-known-m c = search needs
@@ -50,7 +51,7 @@ message-spec =
     tie.close
     (tie.spec
     read-requires
-    stopped-requires
+    unread-requires
     returns
     enum-known-m
     asked-requires

@@ -3,7 +3,6 @@ use mathlib.Core.List.{[], _∷_}
 use native.Mathlib.Omega.{arith}
 use borrow.Author.Needs.{needs}
 use Rattle.lines.specs.Lines.{newline, markText, dashText}
-use Rattle.lines.proofs.Decimals.{decimal-byte}
 use Rattle.lines.proofs.Pieces.{puts-three}
 use Rattle.lines.proofs.burning.Statement.{statement}
 use Rattle.lines.proofs.burning.Tie as tie
@@ -12,14 +11,10 @@ mark-requires : tie.Need-mark-requires
 mark-requires c κs = search needs
 
 dash-requires : tie.Need-dash-requires
-dash-requires c κs =
-    let a = c .before .before .before .before .before .before .args in
-    omega (arith, decimal-byte (a .server) (omega arith))
+dash-requires c κs = search needs
 
 put-requires : tie.Need-put-requires
-put-requires c κs =
-    let a = c .before .before .before .before .before .before .before .before .before .before .args in
-    omega (arith, decimal-byte (a .server) (omega arith))
+put-requires c κs = search needs
 
 same-length : tie.Need-same-length
 same-length c = search needs
@@ -30,7 +25,6 @@ returns c =
     let second = third .before .before .before .before in
     let first = second .before .before .before .before in
     let a = first .before .before .before .args in
-    let l = decimal-byte (a .server) (omega arith) in
     puts-three (a .at) (markText (a .server)) dashText (newline ∷ []) (a .out .now) (omega arith)
     (first .mark .ensures) (second .dash .ensures) (third .put .ensures)
 

@@ -24,7 +24,7 @@ add-out-2 : tie.Need-add-out-2
 add-out-2 c = search needs
 
 slice-write-out-2 : tie.Need-slice-write-out-2
-slice-write-out-2 c = simp length-set (omega arith)
+slice-write-out-2 c = simp length-set (omega (arith, decimal-length (c .before .before .args .n)))
 
 add-result : tie.Need-add-result
 add-result c = search needs
@@ -34,8 +34,9 @@ same-length c = search needs
 
 returns : tie.Need-returns
 returns c =
-    let e = decimal-one (c .before .before .args .n) (omega arith) in
-    rw e (refl, rw add-one (over-sets _ _ _ (omega arith)))
+    let n = c .before .before .args .n in
+    let l = decimal-length n in
+    rw (decimal-one n (omega arith)) (refl, rw add-one (over-sets _ _ _ (omega arith)))
 
 add-number : tie.Need-add-number
 add-number c = search needs

@@ -3,7 +3,6 @@ use mathlib.Core.List.{[], _∷_}
 use native.Mathlib.Omega.{arith}
 use borrow.Author.Needs.{needs}
 use Rattle.lines.specs.Lines.{newline, markText}
-use Rattle.lines.proofs.Decimals.{decimal-byte}
 use Rattle.lines.proofs.Pieces.{puts-three}
 use Rattle.lines.proofs.running.Statement.{statement}
 use Rattle.lines.proofs.running.Tie as tie
@@ -12,14 +11,10 @@ mark-requires : tie.Need-mark-requires
 mark-requires c κs = search needs
 
 mark-requires-2 : tie.Need-mark-requires-2
-mark-requires-2 c κs =
-    let a = c .before .before .before .before .before .before .args in
-    omega (arith, decimal-byte (a .server) (omega arith))
+mark-requires-2 c κs = search needs
 
 put-requires : tie.Need-put-requires
-put-requires c κs =
-    let a = c .before .before .before .before .before .before .before .before .before .before .args in
-    omega (arith, decimal-byte (a .server) (omega arith), decimal-byte (a .task) (omega arith))
+put-requires c κs = search needs
 
 same-length : tie.Need-same-length
 same-length c = search needs
@@ -30,8 +25,6 @@ returns c =
     let second = third .before .before .before .before in
     let first = second .before .before .before .before in
     let a = first .before .before .before .args in
-    let l = decimal-byte (a .server) (omega arith) in
-    let m = decimal-byte (a .task) (omega arith) in
     puts-three (a .at) (markText (a .server)) (markText (a .task)) (newline ∷ []) (a .out .now) (omega arith)
     (first .mark .ensures) (second .mark2 .ensures) (third .put .ensures)
 

@@ -1,18 +1,19 @@
 -- `lines::tick` meets its contract: the number, and behind it what the match tells of the choice. Assumes nothing.
-use Prim.Native.Nat.{_≤_}
 use native.Mathlib.Omega.{arith}
-use lib.ListN.{length, length-append}
+use lib.ListN.{length-append}
 use borrow.Author.Needs.{needs}
 use Rattle.scheduler.specs.declared.Choice.the-variants.{Idle, Burning, Running}
 use Rattle.lines.specs.Decimal.{decimal}
 use Rattle.lines.specs.Lines.{choiceText}
-use Rattle.lines.proofs.Decimals.{decimal-length, mark-length}
+use Rattle.lines.proofs.Batch.{line-length, burning-length, running-length}
 use Rattle.lines.proofs.Pieces.{puts-two}
 use Rattle.lines.proofs.tick.Statement.{statement}
 use Rattle.lines.proofs.tick.Tie as tie
 
 number-requires : tie.Need-number-requires
-number-requires c κs = search needs
+number-requires c κs =
+    let a = c .before .before .args in
+    omega (arith, length-append (decimal (a .n)) (choiceText (a .c)))
 
 enum-told : tie.Need-enum-told
 enum-told c = search needs
@@ -20,7 +21,7 @@ enum-told c = search needs
 idle-requires : tie.Need-idle-requires
 idle-requires c κs =
     let a = c .before .before .before .before .before .before .before .before .args in
-    omega (arith, decimal-length (a .n))
+    omega (arith, line-length (a .n) (a .c) Idle (c .before .enum-told .given .1))
 
 enum-known-c : tie.Need-enum-known-c
 enum-known-c c = search needs
@@ -28,7 +29,9 @@ enum-known-c c = search needs
 burning-requires : tie.Need-burning-requires
 burning-requires c κs =
     let a = c .before .before .before .before .before .before .before .before .before .args in
-    omega (arith, decimal-length (a .n))
+    let known = c .before .before in
+    let i = known .c .given .0 .0 in
+    omega (arith, line-length (a .n) (a .c) (Burning i) (known .c .given .1), burning-length i)
 
 enum-known-c-2 : tie.Need-enum-known-c-2
 enum-known-c-2 c = search needs
@@ -36,7 +39,10 @@ enum-known-c-2 c = search needs
 running-requires : tie.Need-running-requires
 running-requires c κs =
     let a = c .before .before .before .before .before .before .before .before .before .args in
-    omega (arith, decimal-length (a .n))
+    let known = c .before .before in
+    let i = known .c2 .given .0 .0 in
+    let j = known .c2 .given .0 .1 .0 in
+    omega (arith, line-length (a .n) (a .c) (Running i j) (known .c2 .given .1), running-length i j)
 
 same-length : tie.Need-same-length
 same-length c = search needs
@@ -46,9 +52,10 @@ returns c =
     let piece = c .before .before in
     let number = piece .before .before .before .before .before .before in
     let a = number .before .before .before .args in
-    let l = decimal-length (a .n) in
-    let both = puts-two (a .at) (decimal (a .n)) (choiceText Idle) (a .out .now) (omega arith) (number .number .ensures) (piece .idle .ensures) in
-    rw (piece .before .before .enum-told .given .1) (both .0, both .1, omega arith)
+    let told = piece .before .before .enum-told .given .1 in
+    let l = line-length (a .n) (a .c) Idle told in
+    rw told
+    (puts-two (a .at) (decimal (a .n)) (choiceText Idle) (a .out .now) (omega arith) (number .number .ensures) (piece .idle .ensures))
 
 same-length-2 : tie.Need-same-length-2
 same-length-2 c = search needs
@@ -60,11 +67,9 @@ returns-2 c =
     let number = known .before .before .before .before in
     let a = number .before .before .before .args in
     let i = known .c .given .0 .0 in
-    let l = decimal-length (a .n) in
-    let m = mark-length i (omega (arith, piece .before .before .known-told .given)) in
-    let w : length (choiceText (Burning i)) ≤ 9 = rw length-append (omega arith) in
-    let both = puts-two (a .at) (decimal (a .n)) (choiceText (Burning i)) (a .out .now) (omega arith) (number .number .ensures) (piece .burning .ensures) in
-    rw (known .c .given .1) (both .0, both .1, omega arith)
+    let l = line-length (a .n) (a .c) (Burning i) (known .c .given .1) in
+    rw (known .c .given .1)
+    (puts-two (a .at) (decimal (a .n)) (choiceText (Burning i)) (a .out .now) (omega arith) (number .number .ensures) (piece .burning .ensures))
 
 same-length-3 : tie.Need-same-length-3
 same-length-3 c = search needs
@@ -77,12 +82,9 @@ returns-3 c =
     let a = number .before .before .before .args in
     let i = known .c2 .given .0 .0 in
     let j = known .c2 .given .0 .1 .0 in
-    let l = decimal-length (a .n) in
-    let m = mark-length i (omega (arith, piece .before .before .known-told2 .given)) in
-    let k = mark-length j (omega (arith, piece .before .before .known-told2 .given)) in
-    let w : length (choiceText (Running i j)) ≤ 9 = simp length-append (omega arith) in
-    let both = puts-two (a .at) (decimal (a .n)) (choiceText (Running i j)) (a .out .now) (omega arith) (number .number .ensures) (piece .running .ensures) in
-    rw (known .c2 .given .1) (both .0, both .1, omega arith)
+    let l = line-length (a .n) (a .c) (Running i j) (known .c2 .given .1) in
+    rw (known .c2 .given .1)
+    (puts-two (a .at) (decimal (a .n)) (choiceText (Running i j)) (a .out .now) (omega arith) (number .number .ensures) (piece .running .ensures))
 
 pub tick-spec : {M : Type 1} → statement M
 tick-spec =

@@ -25,8 +25,8 @@ open-requires c κs = search needs
 header-requires : tie.Need-header-requires
 header-requires c κs = search needs
 
-refuse-requires : tie.Need-refuse-requires
-refuse-requires c κs = search needs
+behind-requires : tie.Need-behind-requires
+behind-requires c κs = search needs
 
 same-length : tie.Need-same-length
 same-length c = search needs
@@ -37,23 +37,35 @@ same-length-2 c = search needs
 returns : tie.Need-returns
 returns c = search needs
 
-with-requires : tie.Need-with-requires
-with-requires c κs = search needs
-
-messages-requires : tie.Need-messages-requires
-messages-requires c κs = search needs
+refuse-requires : tie.Need-refuse-requires
+refuse-requires c κs = search needs
 
 same-length-3 : tie.Need-same-length-3
-same-length-3 c =
-    let messages = c .before .before .before in
-    let opened = messages .before .before .before .before .before .before .before .before .before .before in
-    messages .input2 .given ∙ opened .before .before .before .before .before .before .before .input .given
+same-length-3 c = search needs
 
 same-length-4 : tie.Need-same-length-4
 same-length-4 c = search needs
 
 returns-2 : tie.Need-returns-2
 returns-2 c = search needs
+
+with-requires : tie.Need-with-requires
+with-requires c κs = search needs
+
+messages-requires : tie.Need-messages-requires
+messages-requires c κs = search needs
+
+same-length-5 : tie.Need-same-length-5
+same-length-5 c =
+    let messages = c .before .before .before in
+    let opened = messages .before .before .before .before .before .before .before .before .before .before .before .before .before .before .before .before in
+    messages .input2 .given ∙ opened .before .before .before .before .input .given
+
+same-length-6 : tie.Need-same-length-6
+same-length-6 c = search needs
+
+returns-3 : tie.Need-returns-3
+returns-3 c = search needs
 
 pub program-spec : {M : Type 1} → statement M
 program-spec =
@@ -65,12 +77,16 @@ program-spec =
     slice-aggregate-open
     open-requires
     header-requires
-    refuse-requires
+    behind-requires
     same-length
     same-length-2
     returns
-    with-requires
-    messages-requires
+    refuse-requires
     same-length-3
     same-length-4
-    returns-2)
+    returns-2
+    with-requires
+    messages-requires
+    same-length-5
+    same-length-6
+    returns-3)

@@ -1,0 +1,59 @@
+-- "Given exactly when", for every text that is put into a buffer from a place on: the header, a message's line, the lines of a batch and the end
+-- (`header`, `message_line`, `ticks` and `end` answer `putOf` and leave `over` of their text). Assumes nothing.
+use mathlib.Core.Path.{_≡_, refl, ap, _∙_}
+use mathlib.Core.Bool.{Bool, true, false}
+use mathlib.Core.List.{List, _++_}
+use mathlib.Core.Logic.{_↔_, _≢_}
+use Prim.Native.Nat.{ℕ, _+_, _≤_, _<_}
+use native.Mathlib.Omega.{arith}
+use lib.Dec.{ltb}
+use lib.ListN.{length, take, drop}
+use borrow.Author.Tests.{lt-ltb, le-ltb, ltb-true, ltb-false}
+use Rattle.refusal.specs.Small.{pick}
+use Rattle.refusal.specs.Numbers.{bufferShort}
+use Rattle.refusal.specs.Refusal.{firstOf}
+use Rattle.refusal.proofs.Exactly.{number-when, none-when, no-place}
+use Rattle.field.specs.Field.{over}
+use Rattle.field.specs.Write.{written}
+use Rattle.field.proofs.Fields.{over-fits, over-past}
+use Rattle.field.proofs.Answers.{written-number, written-place}
+use Rattle.lines.specs.Lines.{putChecks, putOf}
+
+module _ (at : ℕ) (text buf : List ℕ) where
+  put-number : putOf at text buf .refusal .number ≡ firstOf (putChecks at text (length buf)) .number
+  put-number = written-number (firstOf (putChecks at text (length buf))) text
+
+  -- "buffer too short for what is written"
+  pub put-32 : putOf at text buf .refusal .number ≡ bufferShort ↔ (length buf < at + length text)
+  put-32 =
+      number-when _ (putChecks at text (length buf)) put-number 0 refl refl
+      (λ h. ltb-true (length buf) (at + length text) (h .1))
+      (λ h. (tt, lt-ltb (length buf) (at + length text) h))
+
+  -- and no refusal exactly when it fits
+  pub put-accepted : putOf at text buf .refusal .number ≡ 0 ↔ (at + length text ≤ length buf)
+  put-accepted =
+      none-when _ (putChecks at text (length buf)) put-number refl
+      (λ h. ltb-false (length buf) (at + length text) (h .0))
+      (λ h. (le-ltb (length buf) (at + length text) h, tt))
+
+  -- "the place (0 where none is named below)"
+  pub put-place : putOf at text buf .refusal .place ≡ 0
+  put-place = written-place (firstOf (putChecks at text (length buf))) text (no-place (putChecks at text (length buf)) refl)
+
+  -- "zero in every other part": refused, no byte is written, and the buffer is as it was
+  pub put-refused : length buf < at + length text → (putOf at text buf .length ≡ 0) × (over at text buf ≡ buf)
+  put-refused h = (rw (lt-ltb (length buf) (at + length text) h), over-past at text buf h)
+
+  -- else the text stands from the place on. "Writers leave bytes past the output unchanged", and before it
+  pub put-whole : at + length text ≤ length buf
+      → (putOf at text buf .length ≡ length text) × (over at text buf ≡ take at buf ++ (text ++ drop (at + length text) buf))
+  put-whole h = (rw (le-ltb (length buf) (at + length text) h), over-fits at text buf h)
+
+  -- so the place behind what is written is never past both the place and the buffer
+  pub put-within : (m : ℕ) → at ≤ m → length buf ≤ m → at + putOf at text buf .length ≤ m
+  put-within m h l = go (ltb (length buf) (at + length text)) refl
+    where
+      go : (b : Bool) → ltb (length buf) (at + length text) ≡ b → at + putOf at text buf .length ≤ m
+      go true e = rw e (omega arith)
+      go false e = rw e (omega (arith, ltb-false (length buf) (at + length text) e))

@@ -2,15 +2,16 @@
 use mathlib.Core.Path.{_≡_, refl}
 use mathlib.Core.Bool.{Bool, true, false}
 use mathlib.Core.List.{[]}
-use Prim.Native.Nat.{ℕ, _≤_}
+use Prim.Native.Nat.{ℕ, _+_, _≤_}
 use native.Mathlib.Omega.{arith}
-use lib.Dec.{leb, eqb}
-use borrow.Author.Tests.{leb-false}
+use lib.Dec.{leb, ltb, eqb}
+use borrow.Author.Tests.{leb-false, ltb-false}
 use Rattle.refusal.specs.Small.{pick}
 use Rattle.refusal.specs.Refusal.{none, firstOf}
 use Rattle.scheduler.specs.Run.{batchSize, answersOf, stateAfterTicks, ticksIn, runChecks, batchWith, runOf}
 use Rattle.scheduler.specs.declared.State.{State}
 use Rattle.scheduler.proofs.Runs.{ticks-few}
+use Rattle.desk.specs.Desk.{tickLimit}
 
 -- a run has no more ticks than it is asked for
 pub ticks-most : (k : ℕ) → ticksIn k ≤ k
@@ -37,3 +38,16 @@ ticks-some k h = go (leb k batchSize)
     go : (b : Bool) → 1 ≤ pick b k batchSize
     go true = h
     go false = omega arith
+
+-- THE TICKS THAT MAY BE RUN: those that are left, none where they would pass the limit
+
+abbrev pub due : ℕ → ℕ → ℕ
+due ran left = pick (ltb tickLimit (ran + left)) 0 left
+
+-- they are among those that are left, and behind those run they keep to what both the limit and those run keep to
+pub due-few : (ran left m : ℕ) → tickLimit ≤ m → ran ≤ m → (due ran left ≤ left) × (ran + due ran left ≤ m)
+due-few ran left m l h = go (ltb tickLimit (ran + left)) refl
+  where
+    go : (b : Bool) → ltb tickLimit (ran + left) ≡ b → (pick b 0 left ≤ left) × (ran + pick b 0 left ≤ m)
+    go true e = (omega arith, omega arith)
+    go false e = (omega arith, omega (arith, ltb-false tickLimit (ran + left) e))

@@ -4,17 +4,15 @@ use message::Message;
 use refusal::Refusal;
 use scheduler::Answer;
 use scheduler::Arrival;
-use scheduler::Choice;
 use scheduler::State;
 ghost use mathlib.Core.Path.{_≡_};
 ghost use mathlib.Core.Bool.{true, false};
-ghost use lib.Dec.{eqb};
+ghost use Prim.Native.Nat.{_+_};
+ghost use lib.Dec.{ltb, eqb};
 ghost use Rattle.refusal.specs.Small.{pick};
-ghost use Rattle.refusal.specs.Numbers.{ticksPassed, unsound};
-ghost use Rattle.refusal.specs.Refusal.{refused};
-ghost use Rattle.scheduler.specs.Sound.{stateb};
+ghost use Rattle.refusal.specs.Numbers.{ticksPassed};
 ghost use Rattle.lines.specs.declared.Line.the-variants.{Refused};
-ghost use Rattle.desk.specs.Desk.{deskWith, met, openOf, askedOf, arrivedOf, soundFirst, messageOf, notRun, ranOf};
+ghost use Rattle.desk.specs.Desk.{tickLimit, deskWith, met, openOf, askedOf, arrivedOf, soundFirst, messageOf, ranOf};
 
 // A run of the program: the state, how many ticks have been run, and how many of the last message's are left.
 pub struct Desk {
@@ -79,22 +77,21 @@ pub fn message(d: Desk, place: u64, bytes: &[u8]) -> Met
     }
 }
 
-// The next ticks that are left, at most a batch.
+// The next ticks that are left, at most a batch. Where they would pass the limit none is run.
 pub fn run_on(d: Desk) -> Ran
     ensures { λ r. ⌜ r ≡ ranOf d ⌝ }
 {
-    if Desk::LIMIT < (d.ran as u64) + (d.left as u64) {
-        return past(d);
-    }
-    let b = scheduler::run(d.state, d.left as usize);
+    let k = due_ticks(d.ran, d.left);
+    let b = scheduler::run(d.state, k);
     let n = b.count;
     let answers = b.answers;
     let refusal = b.refusal;
+    let number = batch_number(refusal.number, d.ran, d.left);
     Ran {
         answers: answers,
         desk: with_state(b.state, d.ran + (n as u32), d.left - (n as u32)),
-        refusal: refusal,
-        first: first_of(refusal.number, d.ran),
+        refusal: Refusal::numbered(number),
+        first: first_of(number, d.ran),
         count: n,
     }
 }
@@ -177,30 +174,27 @@ fn arrived(d: Desk, server: u8, task: u8, place: u64) -> Met
     }
 }
 
-// A run whose ticks that are left would pass the limit.
-fn past(d: Desk) -> Ran
-    ensures { λ r. ⌜ r ≡ pick (stateb (d .state)) (notRun (refused ticksPassed 0) d) (notRun (refused unsound 0) d) ⌝ }
+// How many of the ticks that are left may be run: none where they would pass the limit.
+fn due_ticks(ran: u32, left: u32) -> usize
+    ensures { λ r. ⌜ r ≡ pick (ltb tickLimit (ran + left)) 0 left ⌝ }
 {
-    if !scheduler::sound(d.state) {
-        return not_run(d, Refusal::UNSOUND);
+    if Desk::LIMIT < (ran as u64) + (left as u64) {
+        return 0;
     }
-    not_run(d, Refusal::TICKS_PASSED)
+    left as usize
 }
 
-fn not_run(d: Desk, number: u8) -> Ran
-    ensures { λ r. ⌜ r ≡ notRun (refused number 0) d ⌝ }
+// The refusal of a batch: the scheduler's comes first.
+fn batch_number(given: u8, ran: u32, left: u32) -> u8
+    ensures { λ r. ⌜ r ≡ pick (eqb given 0) (pick (ltb tickLimit (ran + left)) ticksPassed 0) given ⌝ }
 {
-    let zero = Answer {
-        choice: Choice::Idle,
-        handled: 0,
-    };
-    Ran {
-        answers: [zero; State::BATCH],
-        desk: d,
-        refusal: Refusal::numbered(number),
-        first: 0,
-        count: 0,
+    if given != 0 {
+        return given;
     }
+    if Desk::LIMIT < (ran as u64) + (left as u64) {
+        return Refusal::TICKS_PASSED;
+    }
+    0
 }
 
 // The number of a batch's first tick; 0 where the batch is refused.

@@ -30,7 +30,8 @@ pub const ROOM: usize = 64;
 
 pub const BATCH_ROOM: usize = ROOM * State::BATCH;
 
-const MOST_DIGITS: usize = 20;
+// The highest power of ten of 64 bits: no number has more digits than one more.
+const MOST_POWER: usize = 19;
 
 // `tick server task`
 pub fn header(out: &mut [u8], at: usize) -> Written
@@ -296,14 +297,15 @@ fn places(n: u64) -> usize
 {
     let mut k: usize = 1;
     let mut least: u64 = 10;
-    while k < MOST_DIGITS {
+    while k < MOST_POWER {
         if n < least {
             return k;
         }
         k = k + 1;
-        if k < MOST_DIGITS {
-            least = least * 10;
-        }
+        least = least * 10;
     }
-    k
+    if n < least {
+        return k;
+    }
+    k + 1
 }

@@ -6,12 +6,12 @@ use native.Mathlib.Nat.{pow-suc, pow-le-pow-right}
 use native.Mathlib.Numerals.{add-one}
 use native.Mathlib.Omega.{arith}
 use Rattle.lines.specs.Decimal.{mostDigits}
-use Rattle.lines.proofs.Decimals.{decimal-places}
+use Rattle.lines.proofs.Decimals.{decimal-places, word-below}
 use Rattle.lines.proofs.places.Statement.{statement}
 use Rattle.lines.proofs.places.Tie as tie
 
 abbrev Inv-loop : tie.InvT-loop
-Inv-loop n k₀ least₀ k least = (1 ≤ k) × (k ≤ mostDigits) × (k < mostDigits → least ≡ 10 ^ k) × (2 ≤ k → 10 ^ (k - 1) ≤ n)
+Inv-loop n k₀ least₀ k least = (1 ≤ k) × (k < mostDigits) × (least ≡ 10 ^ k) × (2 ≤ k → 10 ^ (k - 1) ≤ n)
 
 abbrev μ-loop : tie.MeasureT-loop
 μ-loop n k₀ least₀ k least = mostDigits - k
@@ -20,48 +20,50 @@ abbrev μ-loop : tie.MeasureT-loop
 next-power : (k : ℕ) → 10 ^ (k + 1) ≡ 10 ^ k * 10
 next-power k = rw add-one (pow-suc 10 k)
 
--- past the test n has more than k digits
-passed : (c : tie.Else1 Inv-loop μ-loop) → 10 ^ (c .before .before .loop .k + 1 - 1) ≤ c .before .before .before .args .n
-passed c =
-    let l = c .before .before .loop in
-    let e : l .k + 1 - 1 ≡ l .k = omega arith in
-    rw e (omega (arith, l .inv .2 (omega arith)))
+-- past a test n has more than k digits
+passed : (k n : ℕ) → 10 ^ k ≤ n → 10 ^ (k + 1 - 1) ≤ n
+passed k n h =
+    let e : k + 1 - 1 ≡ k = omega arith in
+    rw e h
 
 loop-holds : tie.Need-loop-holds Inv-loop μ-loop
-loop-holds c = (omega arith, omega arith, λ l. refl, λ l. absurd (omega arith))
+loop-holds c = (omega arith, omega arith, refl, λ l. absurd (omega arith))
 
 returns : tie.Need-returns Inv-loop μ-loop
 returns c =
-    let i = c .before .before .loop .inv in
-    sym (decimal-places (c .before .before .loop .k) (c .before .before .before .args .n) (i .0) (i .1) (i .3) (omega (arith, i .2 (omega arith))))
+    let l = c .before .before .loop in
+    sym (decimal-places (l .k) (c .before .before .before .args .n) (l .inv .0) (omega arith) (l .inv .3) (omega (arith, l .inv .2)))
 
 add-k : tie.Need-add-k Inv-loop μ-loop
 add-k c = omega arith
 
 mul-least : tie.Need-mul-least Inv-loop μ-loop
 mul-least c =
-    let l = c .before .before .before .loop in
-    omega (arith, l .inv .2 (omega arith), next-power (l .k), pow-le-pow-right {n = 10} (omega arith) {i = l .k + 1} {j = 19} (omega arith))
+    let l = c .before .before .loop in
+    omega (arith, l .inv .2, next-power (l .k), pow-le-pow-right {n = 10} (omega arith) {i = l .k + 1} {j = 19} (omega arith))
 
 loop-less : tie.Need-loop-less Inv-loop μ-loop
 loop-less c = omega arith
 
 loop-again : tie.Need-loop-again Inv-loop μ-loop
 loop-again c =
-    let l = c .before .before .before .loop in
-    (omega arith, omega arith, λ b. omega (arith, l .inv .2 (omega arith), next-power (l .k)), λ b. passed (c .before))
-
-loop-less-2 : tie.Need-loop-less-2 Inv-loop μ-loop
-loop-less-2 c = omega arith
-
-loop-again-2 : tie.Need-loop-again-2 Inv-loop μ-loop
-loop-again-2 c = (omega arith, omega arith, λ b. absurd (omega arith), λ b. passed (c .before))
+    let l = c .before .before .loop in
+    (omega arith, omega arith, omega (arith, l .inv .2, next-power (l .k)), λ b. passed (l .k) (c .before .before .before .args .n) (omega (arith, l .inv .2)))
 
 returns-2 : tie.Need-returns-2 Inv-loop μ-loop
 returns-2 c =
-    let i = c .before .loop .inv in
-    let k : c .before .loop .k ≡ mostDigits = omega arith in
-    sym (decimal-places (c .before .loop .k) (c .before .before .args .n) (i .0) (i .1) (i .3) (rw k (omega arith)))
+    let l = c .before .before .loop in
+    sym (decimal-places (l .k) (c .before .before .before .args .n) (l .inv .0) (omega arith) (l .inv .3) (omega (arith, l .inv .2)))
+
+add-result : tie.Need-add-result Inv-loop μ-loop
+add-result c = omega arith
+
+returns-3 : tie.Need-returns-3 Inv-loop μ-loop
+returns-3 c =
+    let l = c .before .before .loop in
+    let n = c .before .before .before .args .n in
+    let all : l .k + 1 ≡ mostDigits = omega arith in
+    sym (decimal-places (l .k + 1) n (omega arith) (omega arith) (λ b. passed (l .k) n (omega (arith, l .inv .2))) (rw all (word-below n (omega arith))))
 
 pub places-spec : {M : Type 1} → statement M
 places-spec =
@@ -75,6 +77,6 @@ places-spec =
     mul-least
     loop-less
     loop-again
-    loop-less-2
-    loop-again-2
-    returns-2)
+    returns-2
+    add-result
+    returns-3)

@@ -226,6 +226,29 @@ module _ (d : Desk) (k : ℕ) (bs : List ℕ) where
         ap (λ (x : Met). lineNumber (x .line)) (message-arrives d k bs s i j e) ∙ arrived-number d i j k ∙ f,
   )
 
+  -- and no refusal exactly when the state is sound and it asks for ticks within the limit, or for an arrival that is not refused
+  pub message-accepted : lineNumber (m .line) ≡ 0
+      ↔ (stateb (d .state) ≡ true)
+      × (((n : ℕ) × (readOf bs ≡ readWith none (Run n)) × (d .ran + d .left + n ≤ tickLimit))
+      ⊎ ((i j : ℕ) × (readOf bs ≡ readWith none (Arrival i j)) × (arriveOf (d .state) i j .refusal .number ≡ 0)))
+  message-accepted = (
+    message-cases d k bs
+        (λ (x : Met). lineNumber (x .line) ≡ 0
+        → (stateb (d .state) ≡ true)
+        × (((n : ℕ) × (readOf bs ≡ readWith none (Run n)) × (d .ran + d .left + n ≤ tickLimit))
+        ⊎ ((i j : ℕ) × (readOf bs ≡ readWith none (Arrival i j)) × (arriveOf (d .state) i j .refusal .number ≡ 0))))
+        (λ s f. absurd (omega arith))
+        (λ s h f. absurd (h f))
+        (λ s n e h f. absurd (omega arith))
+        (λ s n e h f. (s, inl (n, e, h)))
+        (λ s i j e f. (s, inr (i, j, e, sym (arrived-number d i j k) ∙ f))),
+    λ h.
+        ⊎-elim
+        (λ x. ap (λ (y : Met). lineNumber (y .line)) (message-runs d k bs (h .0) (x .0) (x .1) (x .2)))
+        (λ x. ap (λ (y : Met). lineNumber (y .line)) (message-arrives d k bs (h .0) (x .0) (x .1) (x .2)) ∙ arrived-number d (x .0) (x .1) k ∙ x .3)
+        (h .1),
+  )
+
   -- WHAT A REFUSED MESSAGE DOES
 
   -- "A refused arrival writes `refused N at K` .. and the run goes on. Other refusals write that line and stop": kind 2 is an arrival, which is itself

@@ -14,7 +14,7 @@ ghost use Rattle.refusal.specs.Numbers.{ticksPassed};
 ghost use Rattle.lines.specs.declared.Line.the-variants.{Refused};
 ghost use Rattle.desk.specs.Desk.{tickLimit, deskWith, met, openOf, askedOf, arrivedOf, soundFirst, messageOf, ranOf};
 
-// A run of the program: the state, how many ticks have been run, and how many of the last message's are left.
+// A run of the program: the state, how many ticks have been run, and how many that messages asked for are left.
 pub struct Desk {
     pub state: State,
     pub ran: u32,
@@ -38,7 +38,7 @@ pub struct Met {
     pub stop: bool,
 }
 
-// The answers of a batch of ticks, the first one's number, and how many there are.
+// The answers of a batch of ticks, the first one's number, and how many there are. Refused: the run as it was, and zero in every other part.
 pub struct Ran {
     pub answers: [Answer; State::BATCH],
     pub desk: Desk,

@@ -1,20 +1,15 @@
 -- "Given exactly when", for every text that is put into a buffer from a place on: the header, a message's line, the lines of a batch and the end
 -- (`header`, `message_line`, `ticks` and `end` answer `putOf` and leave `over` of their text). Assumes nothing.
-use mathlib.Core.Path.{_≡_, refl, ap, _∙_}
-use mathlib.Core.Bool.{Bool, true, false}
+use mathlib.Core.Path.{_≡_, refl}
 use mathlib.Core.List.{List, _++_}
-use mathlib.Core.Logic.{_↔_, _≢_}
+use mathlib.Core.Logic.{_↔_}
 use Prim.Native.Nat.{ℕ, _+_, _≤_, _<_}
-use native.Mathlib.Omega.{arith}
-use lib.Dec.{ltb}
 use lib.ListN.{length, take, drop}
 use borrow.Author.Tests.{lt-ltb, le-ltb, ltb-true, ltb-false}
-use Rattle.refusal.specs.Small.{pick}
 use Rattle.refusal.specs.Numbers.{bufferShort}
 use Rattle.refusal.specs.Refusal.{firstOf}
 use Rattle.refusal.proofs.Exactly.{number-when, none-when, no-place}
 use Rattle.field.specs.Field.{over}
-use Rattle.field.specs.Write.{written}
 use Rattle.field.proofs.Fields.{over-fits, over-past}
 use Rattle.field.proofs.Answers.{written-number, written-place}
 use Rattle.lines.specs.Lines.{putChecks, putOf}
@@ -49,11 +44,3 @@ module _ (at : ℕ) (text buf : List ℕ) where
   pub put-whole : at + length text ≤ length buf
       → (putOf at text buf .length ≡ length text) × (over at text buf ≡ take at buf ++ (text ++ drop (at + length text) buf))
   put-whole h = (rw (le-ltb (length buf) (at + length text) h), over-fits at text buf h)
-
-  -- so the place behind what is written is never past both the place and the buffer
-  pub put-within : (m : ℕ) → at ≤ m → length buf ≤ m → at + putOf at text buf .length ≤ m
-  put-within m h l = go (ltb (length buf) (at + length text)) refl
-    where
-      go : (b : Bool) → ltb (length buf) (at + length text) ≡ b → at + putOf at text buf .length ≤ m
-      go true e = rw e (omega arith)
-      go false e = rw e (omega (arith, ltb-false (length buf) (at + length text) e))

@@ -30,18 +30,20 @@ pub const ROOM: usize = 64;
 
 pub const BATCH_ROOM: usize = ROOM * State::BATCH;
 
-// The highest power of ten of 64 bits: no number has more digits than one more.
+const HEADER: usize = 17;
+
+// The highest power of ten that 64 bits hold: a number has at most one digit more than that.
 const MOST_POWER: usize = 19;
 
 // `tick server task`
 pub fn header(out: &mut [u8], at: usize) -> Written
     ensures { λ r. ⌜ (r ≡ putOf at headerText (now (out .entry))) × (now (out .exit) ≡ over at headerText (now (out .entry))) ⌝ }
 {
-    if !fits(out, at, 17) {
+    if !fits(out, at, HEADER) {
         return Written::refused(Refusal::BUFFER_SHORT);
     }
     word(out, at, b"tick server task\n");
-    Written::whole(17)
+    Written::whole(HEADER)
 }
 
 // The line of a message.

@@ -67,7 +67,8 @@ fn spare(out: &[u8], at: usize) -> Space {
     }
 }
 
-// How far the buffer is filled behind what was written from a place on. A line that found no room ends the program: `spare` keeps that from happening.
+// How far the buffer is filled behind what was written from a place on: the sum is a place in the buffer, so it does not wrap. A line that found no room ends
+// the program; `spare` keeps that from happening.
 fn behind(at: usize, w: Written) -> Space {
     let refusal = w.refusal;
     Space {

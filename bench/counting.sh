@@ -14,7 +14,8 @@ if [ "$(uname -m)" = x86_64 ]; then
     have valgrind
     have gcc
     whole=1
-    compile=(gcc)
+    # linked statically: else the loader's look-up of memcpy counts as stack of the call that makes it first
+    compile=(gcc -static)
     plain() { "$@"; }
     proved() { "$@"; }
     words_of() { words=("$1"); }

@@ -148,10 +148,8 @@ fn asked(d: Desk, n: u16, place: u64) -> Met
     if Desk::LIMIT < (d.ran as u64) + (d.left as u64) + (n as u64) {
         return stopped(d, Refusal::TICKS_PASSED, place);
     }
-    goes_on(
-        with_state(d.state, d.ran, d.left + (n as u32)),
-        Line::Nothing,
-    )
+    let left = d.left + (n as u32);
+    goes_on(with_state(d.state, d.ran, left), Line::Nothing)
 }
 
 // A task's work arrives. A refused call hands the state back as it was.

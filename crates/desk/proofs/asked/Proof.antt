@@ -50,8 +50,8 @@ returns-2 c =
     let a = e .before .before .args in
     rw (sound-here e, lt-ltb tickLimit (a .d .ran + a .d .left + a .n) (c .before .if2 .taken)) (c .stopped2 .ensures)
 
-add-with-state : tie.Need-add-with-state
-add-with-state c = search needs
+add-left : tie.Need-add-left
+add-left c = search needs
 
 with-state-requires : tie.Need-with-state-requires
 with-state-requires c κs = search needs
@@ -81,7 +81,7 @@ asked-spec =
     add-if2-2
     stopped-requires-2
     returns-2
-    add-with-state
+    add-left
     with-state-requires
     goes-on-requires
     returns-3)

@@ -19,10 +19,9 @@ use Rattle.scheduler.specs.declared.State.{State}
 use Rattle.scheduler.proofs.Refusals.{run-accepted}
 use Rattle.scheduler.proofs.Unchanged.{run-done}
 use Rattle.scheduler.proofs.TickSound.{ticks-sound}
-use Rattle.lines.specs.Lines.{tickLine, answerLines, lineText}
-use Rattle.lines.specs.declared.Line.the-variants.{Refused}
+use Rattle.lines.specs.Lines.{tickLine, answerLines}
 use Rattle.desk.specs.Desk.{tickLimit, deskWith, ranWith, ranOf}
-use Rattle.desk.specs.Trace.{leftLines, behindLeft, batchesText, behindBatches}
+use Rattle.desk.specs.Trace.{leftLines, behindLeft, batchText, batchesText, behindBatches}
 use Rattle.desk.specs.declared.Desk.{Desk}
 use Rattle.desk.proofs.Counts.{ticks-most, ticks-some}
 
@@ -118,10 +117,7 @@ batches (suc f) k d h l m =
     go (eqb (d .left) 0) refl (batches f k (next d) (ticks-sound (size d) (d .state) h) (omega (arith, ticks-most (d .left))))
   where
     go : (b : Bool) → eqb (d .left) 0 ≡ b → (next d .left ≤ f → BatchesAre f k (next d)) → let r = ranOf d in
-        (pick b []
-        (pick (eqb (r .refusal .number) 0) (answerLines (r .first) (r .count) (r .answers) ++ batchesText f k (r .desk)) (lineText (Refused (r .refusal .number) k)))
-        ≡ leftLines d)
-        × (pick b d (behindBatches f (r .desk)) ≡ behindLeft d)
+        (pick b [] (batchText k r (batchesText f k (r .desk))) ≡ leftLines d) × (pick b d (behindBatches f (r .desk)) ≡ behindLeft d)
     go true e again = none-left d (eqb-true (d .left) 0 e)
     go false e again =
         let some : 1 ≤ d .left = omega (arith, eqb-false (d .left) 0 e) in

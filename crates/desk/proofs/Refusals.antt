@@ -93,7 +93,8 @@ module _ (d : Desk) (k : ℕ) (bs : List ℕ) where
       → P (messageOf d k bs)
   message-cases P other unread past runs arrives = sound (stateb (d .state)) refl
     where
-      asked : stateb (d .state) ≡ true → (n : ℕ) → readOf bs ≡ readWith none (Run n) → (b : Bool) → ltb tickLimit (d .ran + d .left + n) ≡ b → P (messageOf d k bs)
+      asked : stateb (d .state) ≡ true → (n : ℕ) → readOf bs ≡ readWith none (Run n) → (b : Bool) → ltb tickLimit (d .ran + d .left + n) ≡ b
+          → P (messageOf d k bs)
       asked s n e true h = let l = ltb-true tickLimit (d .ran + d .left + n) h in rw (message-past s n e l) (past s n e l)
       asked s n e false h = let l = ltb-false tickLimit (d .ran + d .left + n) h in rw (message-runs s n e l) (runs s n e l)
 

@@ -11,6 +11,7 @@ use Rattle.lines.specs.Lines.{headerText, answerLines, lineText, endLine}
 use Rattle.lines.specs.declared.Line.the-variants.{Refused}
 use Rattle.desk.specs.Desk.{deskWith, openOf, messageOf, ranOf}
 use Rattle.desk.specs.declared.Desk.{Desk}
+use Rattle.desk.specs.declared.Ran.{Ran}
 
 -- "a line for each tick": those that are left, and the run behind them
 abbrev pub leftLines : Desk → List ℕ
@@ -35,13 +36,14 @@ traceOf input =
     (messagesText (suc (length input)) (o .desk) n (drop n input))
     (lineText (Refused (o .refusal .number) (o .refusal .place)))
 
--- what the program writes for the ticks that are left of the message at k, batch after batch; a batch that is refused is the last. f is at least their number
+-- what the program writes for a batch of the message at k, and behind it; a batch that is refused is the last
+abbrev pub batchText : ℕ → Ran → List ℕ → List ℕ
+batchText k r rest = pick (eqb (r .refusal .number) 0) (answerLines (r .first) (r .count) (r .answers) ++ rest) (lineText (Refused (r .refusal .number) k))
+
+-- and for all ticks that are left, batch after batch; f is at least their number
 abbrev pub batchesText : ℕ → ℕ → Desk → List ℕ
 batchesText zero k d = []
-batchesText (suc f) k d =
-    let r = ranOf d in
-    pick (eqb (d .left) 0) []
-    (pick (eqb (r .refusal .number) 0) (answerLines (r .first) (r .count) (r .answers) ++ batchesText f k (r .desk)) (lineText (Refused (r .refusal .number) k)))
+batchesText (suc f) k d = let r = ranOf d in pick (eqb (d .left) 0) [] (batchText k r (batchesText f k (r .desk)))
 
 abbrev pub behindBatches : ℕ → Desk → Desk
 behindBatches zero d = d

@@ -91,5 +91,6 @@ pub lines-next : (n i k : ℕ) (xs : List Answer) (d : Answer) → i < k → i <
     → length (answerLines n i xs) + length (tickLine (n + i) (getD xs i d .choice)) ≤ length (answerLines n k xs)
 lines-next n i k xs d h l =
     let line = tickLine (n + i) (getD xs i d .choice) in
-    let e : length (answerLines n (suc i) xs) ≡ length (answerLines n i xs) + length line = rw (lines-more n i xs d l) (length-append (answerLines n i xs) line) in
+    let more = length-append (answerLines n i xs) line in
+    let e : length (answerLines n (suc i) xs) ≡ length (answerLines n i xs) + length line = rw (lines-more n i xs d l) more in
     omega (arith, lines-fewer n (suc i) k xs h)

@@ -1,5 +1,5 @@
--- `desk::arrived` meets its contract: the scheduler's answer is the definition's, and its refusal and its case decide which line is written. Its 31 says that the
--- state is not sound, and the state that it hands back is then the one handed in.
+-- `desk::arrived` meets its contract: the scheduler's answer is the definition's, and its refusal and its case decide which line is written. Its 31 says that
+-- the state is not sound, and the state that it hands back is then the one handed in.
 use mathlib.Core.Path.{_≡_, sym, ap, _∙_}
 use mathlib.Core.Bool.{true, false}
 use native.Mathlib.Omega.{arith}
@@ -81,7 +81,8 @@ returns-3 c =
     let e = l .before .before in
     let w = e .before .before .before in
     let a = w .before .arrive in
-    rw (sound-here e, c .goes-on2 .ensures, w .with-state .ensures, ← a .ensures, eq-eqb (a .result .refusal .number) 0 (l .if2 .left), c .before .enum-told .given .1)
+    let none = eq-eqb (a .result .refusal .number) 0 (l .if2 .left) in
+    rw (sound-here e, c .goes-on2 .ensures, w .with-state .ensures, ← a .ensures, none, c .before .enum-told .given .1)
 
 returns-4 : tie.Need-returns-4
 unfolding arrivedOf
@@ -90,7 +91,8 @@ returns-4 c =
     let e = l .before .before in
     let w = e .before .before .before in
     let a = w .before .arrive in
-    rw (sound-here e, c .goes-on3 .ensures, w .with-state .ensures, ← a .ensures, eq-eqb (a .result .refusal .number) 0 (l .if2 .left), c .before .enum-told2 .given .1)
+    let none = eq-eqb (a .result .refusal .number) 0 (l .if2 .left) in
+    rw (sound-here e, c .goes-on3 .ensures, w .with-state .ensures, ← a .ensures, none, c .before .enum-told2 .given .1)
 
 pub arrived-spec : {M : Type 1} → statement M
 arrived-spec =

@@ -21,7 +21,8 @@ left : (c : tie.Else1) → let a = c .before .before .before .before .before .ar
 left c =
     let p = c .before .before .before in
     let a = p .before .before .args in
-    omega (arith, p .places .ensures, has-room (a .at) (5 + p .places .result) (a .out .now) (c .before .fits2 .result) (c .before .fits2 .ensures) (c .if1 .left))
+    let f = c .before .fits2 in
+    omega (arith, p .places .ensures, has-room (a .at) (5 + p .places .result) (a .out .now) (f .result) (f .ensures) (c .if1 .left))
 
 places-requires : tie.Need-places-requires
 places-requires c κs = search needs

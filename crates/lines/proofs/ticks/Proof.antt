@@ -32,7 +32,8 @@ zero-answer = record { choice = Idle; handled = 0 }
 few : (c : tie.After-least Inv-loop μ-loop) → c .least .result ≤ batchSize
 few c = rw (c .least .ensures) (least-most (c .before .before .args .count) batchSize)
 
-all : (c : tie.After-least Inv-loop μ-loop) → let a = c .before .before .args in answerLines (a .first) (a .count) (a .t4) ≡ answerLines (a .first) (c .least .result) (a .t4)
+all : (c : tie.After-least Inv-loop μ-loop) → let a = c .before .before .args in
+    answerLines (a .first) (a .count) (a .t4) ≡ answerLines (a .first) (c .least .result) (a .t4)
 all c =
     let s = c .before .before in
     rw (c .least .ensures) (lines-least (s .args .first) (s .args .count) batchSize (s .args .t4) (s .good .1 .1 .1 .0 .1 .0 .1))

@@ -64,8 +64,9 @@ returns-3 c = search needs
 
 loop-less : tie.Need-loop-less Inv-loop μ-loop
 loop-less c =
-    let ran = c .before .before .before .before .before .before .before .before .before .before .before .before in
-    let accepted = ap (λ (r : Ran). r .refusal .number) (sym (ran .run-on .ensures)) ∙ c .before .before .before .before .before .before .before .before .if3 .left in
+    let test = c .before .before .before .before .before .before .before .before in
+    let ran = test .before .before .before .before in
+    let accepted = ap (λ (r : Ran). r .refusal .number) (sym (ran .run-on .ensures)) ∙ test .if3 .left in
     rw (ran .run-on .ensures) (left-falls _ accepted (ran .before .before .before .before .before .if1 .taken))
 
 loop-again : tie.Need-loop-again Inv-loop μ-loop

@@ -1,7 +1,7 @@
 -- `desk::arrived` meets its contract: the scheduler's answer is the definition's, and its refusal and its case decide which line is written. Its 31 says that
 -- the state is not sound, and the state that it hands back is then the one handed in.
 use mathlib.Core.Path.{_≡_, sym, ap, _∙_}
-use mathlib.Core.Bool.{true, false}
+use mathlib.Core.Bool.{true}
 use native.Mathlib.Omega.{arith}
 use borrow.Author.Needs.{needs}
 use borrow.Author.Tests.{eq-eqb, ne-eqb}

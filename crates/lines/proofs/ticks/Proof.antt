@@ -1,9 +1,8 @@
 -- `lines::ticks` meets its contract. The loop's invariant: the lines of the first i answers stand in the buffer. There is room for all of them: for as many
 -- lines as can be, or for as many bytes as they have. Assumes nothing.
 use mathlib.Core.Path.{_≡_, sym}
-use mathlib.Core.List.{List}
 use mathlib.Core.Logic.{⊎-elim}
-use Prim.Native.Nat.{ℕ, _+_, _-_, _≤_, _<_}
+use Prim.Native.Nat.{_+_, _-_, _≤_, _<_}
 use native.Mathlib.Nat.{add-zero}
 use native.Mathlib.Numerals.{add-one}
 use native.Mathlib.Omega.{arith}

@@ -1,5 +1,5 @@
--- "So a budget that ends on the tick of its refill is emptied first and then full": and so its server runs on the next tick, where nobody above it is ready.
--- Assumes nothing.
+-- "So a budget that ends on the tick of its refill is emptied first and then full": and so its server runs on the next tick, if it wants that tick and nobody
+-- above it is ready. Assumes nothing.
 use mathlib.Core.Path.{_≡_, refl, _∙_}
 use mathlib.Core.Bool.{true, false}
 use mathlib.Core.List.{List, [], _∷_}
@@ -24,18 +24,13 @@ use Rattle.scheduler.proofs.TickSound.{tick-accepts, ticked-sound, arrive-sound
 use Rattle.scheduler.proofs.KeptSizes.{tick-sized, arrive-sized}
 use Rattle.scheduler.proofs.FirstReady.{chosen-first}
 use Rattle.scheduler.proofs.Laws.{tick-filled, arrive-budget}
-use Rattle.assurance.specs.Demand3.{wantsAt}
+use Rattle.assurance.specs.Demand3.{arrived, wantsAt}
 
 -- on every sound state, whatever is left of the budget and whomever the tick serves: a budget of 1 that this tick takes is full on the next one too
 pub refilled-full : (s : State) → SizedState s → stateb s ≡ true → (i : ℕ) → i < s .table .count → refillAway s i ≡ 1 → budgetAt (tickOf s .state) i ≡ fullAt s i
 refilled-full s z h i l e = rw (tick-accepts s h) (tick-filled s z h i l e .budget)
 
 -- THE NEXT TICK
-
--- the state after arrivals, each of a server and a task
-abbrev pub arrived : State → List (ℕ × ℕ) → State
-arrived s [] = s
-arrived s (a ∷ rest) = arrived (arriveOf s (a .0) (a .1) .state) rest
 
 -- sound like the one before, and with its budgets
 module _ (i : ℕ) where

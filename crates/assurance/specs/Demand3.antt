@@ -77,6 +77,11 @@ ticksOf s (tick ∷ cs) =
 ticksOf s (run k ∷ cs) = let r = runOf s k in seenBy (take (r .count) (r .answers)) s ++ ticksOf (r .state) cs
 ticksOf s (arrival i j ∷ cs) = ticksOf (arriveOf s i j .state) cs
 
+-- the state after arrivals, each of a server and a task
+abbrev pub arrived : State → List (ℕ × ℕ) → State
+arrived s [] = s
+arrived s (a ∷ rest) = arrived (arriveOf s (a .0) (a .1) .state) rest
+
 -- how many ticks the calls ask for; a run of more than 64 is a run of 64
 unfoldable pub ticksAsked : List Call → ℕ
 ticksAsked [] = 0

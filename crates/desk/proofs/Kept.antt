@@ -74,6 +74,10 @@ module _ (d : Desk) (k : ℕ) (w : Kept d) where
 
 module _ (d : Desk) (w : Kept d) where
   -- a batch of them
+  -- so no batch of it is refused
+  pub batch-accepted : ranOf d .refusal .number ≡ 0
+  batch-accepted = run-on-accepted d .1 (w .sound, w .within)
+
   pub batch-kept : Kept (ranOf d .desk)
   batch-kept =
       rw (batch-is d (w .sound) (w .within))

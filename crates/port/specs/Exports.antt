@@ -3,7 +3,6 @@ use mathlib.Core.Bool.{not}
 use mathlib.Core.List.{List, [], _∷_}
 use Prim.Native.Nat.{ℕ}
 use lib.Dec.{ltb, eqb}
-use lib.ListN.{getD}
 use Rattle.refusal.specs.Small.{pick}
 use Rattle.refusal.specs.Numbers.{unsound, noServer, noTask}
 use Rattle.refusal.specs.Refusal.{Check, check, firstOf}
@@ -12,10 +11,9 @@ use Rattle.queue.specs.declared.Changed.{Changed}
 use Rattle.message.specs.declared.Message.{Message}
 use Rattle.message.specs.declared.Message.the-variants.{Run, Arrival}
 use Rattle.port.specs.Words.{queueWords}
-use Rattle.scheduler.specs.State.{zeroLoad, serverAt, entryAt}
+use Rattle.scheduler.specs.State.{serverAt}
 use Rattle.scheduler.specs.Sound.{stateb}
 use Rattle.scheduler.specs.Choice.{choiceNumber}
-use Rattle.scheduler.specs.declared.Load.{Load}
 use Rattle.scheduler.specs.declared.State.{State}
 use Rattle.scheduler.specs.declared.Choice.{Choice}
 use Rattle.scheduler.specs.declared.Choice.the-variants.{Idle, Burning, Running}
@@ -58,9 +56,6 @@ loadChecks s i j =
 
 abbrev pub loadRefusal : State → ℕ → ℕ → Refusal
 loadRefusal s i j = firstOf (loadChecks s i j)
-
-abbrev pub loadAt : State → ℕ → ℕ → Load
-loadAt s i j = getD (entryAt s i .loads) j zeroLoad
 
 -- a message: its kind, and the number of ticks and 0, or the server and the task
 abbrev pub messageWords : Message → List ℕ

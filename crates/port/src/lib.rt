@@ -31,8 +31,9 @@ ghost use Rattle.scheduler.specs.Choice.{choiceNumber};
 ghost use Rattle.scheduler.specs.Arrive.{arrivalNumber, arriveOf};
 ghost use Rattle.scheduler.specs.Tick.{tickOf};
 ghost use Rattle.scheduler.specs.Fresh.{freshOf};
+ghost use Rattle.scheduler.specs.Meaning.{loadAt};
 ghost use Rattle.port.specs.Words.{word, queueIn, queueWords, loadWords, tableIn, tableWords, stateIn, stateWords};
-ghost use Rattle.port.specs.Exports.{heldAfter, heldQueue, chosenServer, chosenTask, answerWords, budgetRefusal, loadRefusal, loadAt, messageWords};
+ghost use Rattle.port.specs.Exports.{heldAfter, heldQueue, chosenServer, chosenTask, answerWords, budgetRefusal, loadRefusal, messageWords};
 
 // THE QUEUE
 

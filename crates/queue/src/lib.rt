@@ -234,6 +234,8 @@ pub fn push_back(q: Queue) -> Changed
     accept(pushed(q))
 }
 
+// A TEST FOR A SCHEDULER, which is no call of document 01
+
 // Whether the queue is sound and holds exactly what it is to hold: for each id below 8 an event 1 to its reach away, and none where the reach is 0.
 pub fn holds(q: Queue, reach: [Distance; Queue::HELD]) -> bool
     ensures { λ r. ⌜ r ≡ holdsb maxGap longest (inTicks reach) q ⌝ }

@@ -367,7 +367,7 @@ fn all_due(s: Server, e: Entry) -> EntryTurn
         let l = load_after(next.loads[j], work.0);
         next.loads[j] = l;
         let r = t.release;
-        let q = queue::steps::again(next.arrivals, Distance(period_of(r)));
+        let q = queue::steps::again(next.arrivals, period_of(r));
         next.arrivals = q;
         handled = handled + 1;
     }
@@ -537,12 +537,12 @@ fn is_periodic(r: Release) -> bool
     }
 }
 
-fn period_of(r: Release) -> u32
-    ensures { λ x. ⌜ x ≡ periodOf r ⌝ }
+fn period_of(r: Release) -> Distance
+    ensures { λ x. ⌜ x .0 ≡ periodOf r ⌝ }
 {
     match r {
-        Release::OnArrival => 0,
-        Release::Periodic { period, offset: _ } => period.0,
+        Release::OnArrival => Distance(0),
+        Release::Periodic { period, offset: _ } => period,
     }
 }
 

@@ -1,6 +1,8 @@
 """The model held to document 01: the worked example, every point on the edge, and each refusal and each rule of soundness at least once.
 
 What is due here was worked out from the document by hand."""
+import sys
+
 import cases
 import model
 from model import DEFERRABLE, EMPTY, FILLER, IDLING, NONE, ON_ARRIVAL, PERIODIC, Message, Refusal, Row, Server, Table, Task
@@ -393,4 +395,6 @@ def faults():
 
 
 if __name__ == "__main__":
-    print("\n".join(faults()) or "the model and document 01's points agree")
+    wrong = faults()
+    print("\n".join(wrong) or "the model and document 01's points agree")
+    sys.exit(1 if wrong else 0)

@@ -8,14 +8,14 @@ use Rattle.table.specs.Sound.{tableb}
 use Rattle.scheduler.specs.Sound.{entryb, stateb}
 use Rattle.scheduler.specs.Choice.{wantsb, chosenOf, choiceOf}
 use Rattle.scheduler.specs.Arrive.{loadAfter, arriveOf}
-use Rattle.scheduler.specs.Tick.{charge, turnOf, served4, stateAfter, handledOf, againb, tickOf}
+use Rattle.scheduler.specs.Tick.{charge, turnOf, roomOf, served4, stateAfter, handledOf, againb, tickOf}
 use Rattle.scheduler.specs.Run.{runOf}
 use Rattle.scheduler.specs.Fresh.{freshQueue, freshEntry, freshState, freshOf}
 use Rattle.assurance.specs.Demand3.{sumBelow, ceil, mostHeld, sure, ticksOf, periodTicks, tally}
 use Rattle.assurance.specs.Worked.{Worked}
 
 pub worked : Worked
-unfolding insertOf clockOf takeOf holdsb soundb sameb cellsOf queueOf cellsFor tableb entryb stateb wantsb chosenOf choiceOf loadAfter arriveOf charge turnOf served4 stateAfter handledOf againb tickOf runOf freshQueue freshEntry freshState freshOf sumBelow ceil mostHeld sure ticksOf periodTicks tally
+unfolding insertOf clockOf takeOf holdsb soundb sameb cellsOf queueOf cellsFor tableb entryb stateb wantsb chosenOf choiceOf loadAfter arriveOf charge turnOf roomOf served4 stateAfter handledOf againb tickOf runOf freshQueue freshEntry freshState freshOf sumBelow ceil mostHeld sure ticksOf periodTicks tally
 worked =
     record {
       worked-W = refl;

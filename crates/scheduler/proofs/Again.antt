@@ -13,7 +13,7 @@ use Rattle.refusal.proofs.Small.{both-left, both-right, neither-left, neither-r
 use Rattle.queue.specs.Limits.{maxGap, longest}
 use Rattle.queue.specs.Row.{Event, event, eventsOf}
 use Rattle.queue.specs.Sound.{hasb, distinctb, soundb}
-use Rattle.queue.specs.Calls.{acceptedWith, withEvent, distanceOf, dueb, earlier, clockOf, takeOf, insertOf}
+use Rattle.queue.specs.Calls.{withEvent, distanceOf, dueb, earlier, clockOf, takeOf, insertOf}
 use Rattle.queue.specs.declared.Queue.{Queue}
 use Rattle.queue.specs.declared.Changed.{Changed}
 use Rattle.queue.proofs.Soundness.{sound-is}
@@ -23,7 +23,7 @@ use Rattle.queue.proofs.Keeps.{clock-sound, clock-events, take-sound, insert-so
 use Rattle.queue.proofs.DueTimes.{there, away, clock-others, take-first, take-others, insert-others, insert-new}
 use Rattle.queue.proofs.Room.{room-for-eight}
 use Rattle.table.specs.Limits.{entries}
-use Rattle.scheduler.specs.Tick.{clocked, dueIds, dueIn, again, turnOf}
+use Rattle.scheduler.specs.Tick.{clocked, dueIds, dueIn, again, roomyb, turnOf, roomOf}
 use Rattle.scheduler.proofs.HeldEach.{HeldEach, held-reached, held-few, held-rests}
 
 -- THE DUE IDS
@@ -196,13 +196,11 @@ module _ (delay : ℕ → ℕ) where
                 rw z (rw (m, n) at (r .moved j (same-there j ∙ h)))
             go false e m = rw m at (r .moved j (same-there j ∙ h))
 
-  again-all : (ids : List ℕ) (c : Changed) → c .refusal .number ≡ 0 → Fit (c .queue) → dueIds (eventsOf (c .queue)) ≡ ids
-      → (again delay ids c .refusal .number ≡ 0) × PutAgain (c .queue) (again delay ids c .queue)
-  again-all [] c a f d = (a, record { sound = f .sound; same = λ j. refl; moved = λ j h. rw (rests-away (eventsOf (c .queue)) (ids-none (eventsOf (c .queue)) d) j h) })
-  again-all (id ∷ ids) c a f d =
-      let q = c .queue in
-      let r = again-all ids (next q f id ids d) (accepted q f id ids d) (next-fit q f id ids d) (next-ids q f id ids d) in
-      rw (eq-eqb (c .refusal .number) 0 a) (r .0, more q f id ids d _ (r .1))
+  again-all : (ids : List ℕ) (q : Queue) → Fit q → dueIds (eventsOf q) ≡ ids → (roomyb delay ids q ≡ true) × PutAgain q (again delay ids q)
+  again-all [] q f d = (refl, record { sound = f .sound; same = λ j. refl; moved = λ j h. rw (rests-away (eventsOf q) (ids-none (eventsOf q) d) j h) })
+  again-all (id ∷ ids) q f d =
+      let r = again-all ids (next q f id ids d .queue) (next-fit q f id ids d) (next-ids q f id ids d) in
+      (rw (eq-eqb _ 0 (accepted q f id ids d)) (r .0), more q f id ids d _ (r .1))
 
   -- STEP 4 OF ONE QUEUE
 
@@ -227,20 +225,20 @@ module _ (delay : ℕ → ℕ) where
           each = λ j h. f .each j (sym (nearer j .0) ∙ h);
         }
 
-    turn-all : (turnOf delay q .refusal .number ≡ 0) × PutAgain (clocked q) (turnOf delay q .queue)
-    unfolding turnOf
-    turn-all = again-all (dueIn q) (acceptedWith (clocked q)) refl clocked-fit refl
+    turn-all : (roomOf delay q ≡ true) × PutAgain (clocked q) (turnOf delay q)
+    unfolding turnOf roomOf
+    turn-all = again-all (dueIn q) (clocked q) clocked-fit refl
 
     -- no event that is put in again is refused
-    pub turn-accepted : turnOf delay q .refusal .number ≡ 0
+    pub turn-accepted : roomOf delay q ≡ true
     turn-accepted = turn-all .0
 
-    pub turn-moved : Moved q (turnOf delay q .queue)
+    pub turn-moved : Moved q (turnOf delay q)
     turn-moved =
         let r = turn-all .1 in
         record { sound = r .sound; same = λ j. r .same j ∙ nearer j .0; moved = λ j h. moved j h (r .moved j (nearer j .0 ∙ h)) }
       where
-        moved : (j : ℕ) → there j q ≡ true → let p = turnOf delay q .queue in let c = away j (clocked q) in away j p ≡ pick (eqb c 0) (delay j) c → away j p ≡ pick (eqb (away j q) 1) (delay j) (away j q - 1)
+        moved : (j : ℕ) → there j q ≡ true → let p = turnOf delay q in let c = away j (clocked q) in away j p ≡ pick (eqb c 0) (delay j) c → away j p ≡ pick (eqb (away j q) 1) (delay j) (away j q - 1)
         moved j h e =
             e ∙ one-nearer (away j (clocked q)) (away j q) (delay j) (nearer j .1 h)
 
@@ -275,20 +273,20 @@ module _ (delay : ℕ → ℕ) (reach : List ℕ) where
           each = λ j t. let d = each j (held-reached reach q h j t) in (d .low, omega (arith, d .high, d .near));
         }
 
-    pub held-accepted : turnOf delay q .refusal .number ≡ 0
+    pub held-accepted : roomOf delay q ≡ true
     held-accepted = turn-accepted delay q held-fit (held-rests reach q h)
 
-    pub held-moved : Moved delay q (turnOf delay q .queue)
+    pub held-moved : Moved delay q (turnOf delay q)
     held-moved = turn-moved delay q held-fit (held-rests reach q h)
 
     -- it holds the same events, each still within its reach
-    pub held-again : HeldEach reach (turnOf delay q .queue)
+    pub held-again : HeldEach reach (turnOf delay q)
     held-again = record { sound = t .sound; within = within; present = λ j m. t .same j ∙ h .present j m }
       where
-        t : Moved delay q (turnOf delay q .queue)
+        t : Moved delay q (turnOf delay q)
         t = held-moved
 
-        within : (j : ℕ) → there j (turnOf delay q .queue) ≡ true → (1 ≤ away j (turnOf delay q .queue)) × (away j (turnOf delay q .queue) ≤ getD reach j 0)
+        within : (j : ℕ) → there j (turnOf delay q) ≡ true → (1 ≤ away j (turnOf delay q)) × (away j (turnOf delay q) ≤ getD reach j 0)
         within j k = let k′ : there j q ≡ true = sym (t .same j) ∙ k in rw (t .moved j k′) (go (eqb (away j q) 1) refl k′)
           where
             go : (b : Bool) → eqb (away j q) 1 ≡ b → there j q ≡ true → let a = pick b (delay j) (away j q - 1) in (1 ≤ a) × (a ≤ getD reach j 0)

@@ -18,8 +18,8 @@ use Rattle.table.specs.declared.Server.{Server}
 use Rattle.scheduler.specs.State.{mostPending, taskAt}
 use Rattle.scheduler.specs.Sound.{taskReaches, entryb}
 use Rattle.scheduler.specs.Arrive.{fitsb, loadAfter, withArrival}
-use Rattle.scheduler.specs.Tick.{dueIds, arrivedLoads, served4}
-use Rattle.scheduler.specs.Moves.{taskDelay, pendingBelow, tabledb, Clocked, Arriving, oneArrival, dueTurn, withQueue, servedTurn}
+use Rattle.scheduler.specs.Tick.{dueIds, taskDelay, arrivedLoads, served4}
+use Rattle.scheduler.specs.Moves.{pendingBelow, tabledb, Clocked, Arriving, oneArrival, dueTurn, withQueue, servedTurn}
 use Rattle.scheduler.specs.declared.Load.{Load}
 use Rattle.scheduler.specs.declared.Entry.{Entry}
 use Rattle.scheduler.proofs.Lists.{length-alter}
@@ -88,7 +88,7 @@ module _ (s : Server) (e : Entry) where
     arrival-same =
         let l : arrivedLoads s (dueIds (eventsOf (e .arrivals))) (e .loads) ≡ arrivedLoads s (dueIds (eventsOf (oneArrival s e .arrivals))) (oneArrival s e .loads) =
         rw (arrival-turned .first) in
-        λ i. record { loads = l i; arrivals = came-more (taskDelay s) (e .arrivals) arrival-turned i .queue; budget = e .budget }
+        λ i. record { loads = l i; arrivals = came-more (taskDelay s) (e .arrivals) arrival-turned i; budget = e .budget }
 
   -- there are as many loads as before
   pub arrival-length : length (oneArrival s e .loads) ≡ length (e .loads)
@@ -127,7 +127,7 @@ module _ (s : Server) (e : Entry) (t : tabledb s ≡ true) (h : entryb s e ≡ t
       let d = due-in (taskReaches (s .tasks)) (e .arrivals) (parts .arrivals) in
       let r = turn-is (taskReaches (s .tasks)) (e .arrivals) (parts .arrivals) (taskDelay s) in
       λ i. record {
-        entry = record { loads = arrivedLoads s (d i) (e .loads); arrivals = r i .queue; budget = e .budget };
+        entry = record { loads = arrivedLoads s (d i) (e .loads); arrivals = r i; budget = e .budget };
         handled = length (d i);
       }
 

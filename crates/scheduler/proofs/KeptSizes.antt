@@ -9,10 +9,10 @@ use Rattle.table.specs.Meaning.{Sized}
 use Rattle.table.specs.declared.Task.{Task}
 use Rattle.table.specs.declared.Server.{Server}
 use Rattle.table.specs.declared.Table.{Table}
-use Rattle.scheduler.specs.State.{zeroEntry, serverAt, entryAt, taskAt}
+use Rattle.scheduler.specs.State.{zeroEntry, withBudget, serverAt, entryAt, taskAt}
 use Rattle.scheduler.specs.Choice.{firstPending, chosenOf}
 use Rattle.scheduler.specs.Arrive.{loadAfter, withArrival, withLoads, arriveOf}
-use Rattle.scheduler.specs.Tick.{lessWork, charge, dueIn, withBudget, refilled, fullAt, arrivedLoads, served4, eachEntry, chargedEntries, stateAfter}
+use Rattle.scheduler.specs.Tick.{lessWork, charge, dueIn, refilled, fullAt, arrivedLoads, served4, eachEntry, chargedEntries, stateAfter}
 use Rattle.scheduler.specs.Fresh.{freshLoads, freshEntry, freshEntries, freshState}
 use Rattle.scheduler.specs.Meaning.{SizedState}
 use Rattle.scheduler.specs.declared.Load.{Load}

@@ -11,11 +11,11 @@ use Rattle.refusal.specs.Small.{pick, alter}
 use Rattle.queue.proofs.DueTimes.{there}
 use Rattle.table.specs.Limits.{entries}
 use Rattle.table.specs.declared.Server.{Server}
-use Rattle.scheduler.specs.State.{zeroEntry}
+use Rattle.scheduler.specs.State.{zeroEntry, withBudget}
 use Rattle.scheduler.specs.Sound.{serverReaches, stateb}
 use Rattle.scheduler.specs.Choice.{chosenOf, choiceOf, servesb}
 use Rattle.scheduler.specs.Arrive.{arriveOf}
-use Rattle.scheduler.specs.Tick.{charge, dueIn, withBudget, refilled, periodAt, fullAt, served4, eachEntry, chargedEntries, stateAfter}
+use Rattle.scheduler.specs.Tick.{charge, dueIn, refilled, periodAt, fullAt, served4, eachEntry, chargedEntries, stateAfter}
 use Rattle.scheduler.specs.Meaning.{SizedState, budgetAt, refillAway, SoundState, Spent, Filled}
 use Rattle.scheduler.specs.declared.Entry.{Entry}
 use Rattle.scheduler.specs.declared.State.{State}

@@ -10,13 +10,13 @@ use Rattle.queue.specs.Limits.{maxGap}
 use Rattle.queue.specs.Row.{eventsOf}
 use Rattle.queue.specs.Steps.{firstCell, dueStep, tickStep, againStep}
 use Rattle.queue.specs.declared.Queue.{Queue}
-use Rattle.queue.specs.declared.Changed.{Changed}
 use Rattle.table.specs.Limits.{entries}
 use Rattle.table.specs.Table.{zeroServer}
 use Rattle.table.specs.declared.Server.{Server}
 use Rattle.table.specs.declared.Table.{Table}
+use Rattle.scheduler.specs.State.{withBudget}
 use Rattle.scheduler.specs.Sound.{serverReaches, stateb}
-use Rattle.scheduler.specs.Tick.{dueIds, dueIn, withBudget, refilled, periodAt, fullAt, refillsTurn, chargedEntries}
+use Rattle.scheduler.specs.Tick.{dueIds, dueIn, refilled, periodAt, fullAt, refillsTurn, chargedEntries}
 use Rattle.scheduler.specs.Moves.{requeued, Turning, periodIn}
 use Rattle.scheduler.specs.declared.Entry.{Entry}
 use Rattle.scheduler.specs.declared.State.{State}
@@ -102,7 +102,7 @@ module _ {t : Table} {es₀ es : List Entry} {q₀ q : Queue} {n i : ℕ} (r : R
 -- the entries, the queue and the count after the replenishments
 pub record Refilled (s : State) (es : List Entry) (q : Queue) (n : ℕ) : Type 0 where
   pub budgets : es ≡ refilled (fullAt s) (dueIn (s .refills)) (chargedEntries s)
-  pub queue : q ≡ refillsTurn s .queue
+  pub queue : q ≡ refillsTurn s
   pub handled : n ≡ length (dueIn (s .refills))
 
 module _ (s : State) (h : stateb s ≡ true) where
@@ -120,9 +120,9 @@ module _ (s : State) (h : stateb s ≡ true) where
       let k = state-parts s .0 h .refills in
       let none : dueIds (eventsOf q) ≡ [] = none-due q (r .turning .sound) d in
       let due : dueIds (eventsOf q₀) ≡ dueIn (s .refills) = ap (λ (x : Queue). dueIds (eventsOf x)) t ∙ sym (due-in reach (s .refills) k) in
-      let e : cameTo (periodAt s) q .queue ≡ q = rw none in
+      let e : cameTo (periodAt s) q ≡ q = rw none in
       record {
         budgets = rw c at (rw (none, due) at (r .budgets));
-        queue = sym e ∙ ap (λ (x : Changed). x .queue) (r .queue ∙ ap (cameTo (periodAt s)) t ∙ sym (turn-is reach (s .refills) k (periodAt s)));
+        queue = sym e ∙ r .queue ∙ ap (cameTo (periodAt s)) t ∙ sym (turn-is reach (s .refills) k (periodAt s));
         handled = omega (arith, r .handled, ap length none, ap length due);
       }

@@ -23,11 +23,11 @@ use Rattle.queue.proofs.Keeps.{clock-sound, clock-events}
 use Rattle.table.specs.Limits.{entries}
 use Rattle.table.specs.Table.{periodOf, zeroServer}
 use Rattle.table.specs.declared.Server.{Server}
-use Rattle.scheduler.specs.State.{mostPending, load, zeroLoad, zeroEntry, serverAt, entryAt, taskAt}
+use Rattle.scheduler.specs.State.{mostPending, load, zeroLoad, zeroEntry, withBudget, serverAt, entryAt, taskAt}
 use Rattle.scheduler.specs.Sound.{taskReaches, serverReaches, entryb, entriesb, stateb}
 use Rattle.scheduler.specs.Choice.{firstPending, chosenOf, choiceOf}
 use Rattle.scheduler.specs.Arrive.{arrivalBy, arrivalNumber, lostAfter, loadAfter, withArrival, withLoads, arriveOf}
-use Rattle.scheduler.specs.Tick.{lessWork, charge, clocked, dueIds, dueIn, withBudget, refilled, fullAt, arrivedLoads, served4, eachEntry, dueEvents, chargedEntries, stateAfter, handledOf}
+use Rattle.scheduler.specs.Tick.{lessWork, charge, clocked, dueIds, dueIn, refilled, fullAt, taskDelay, arrivedLoads, served4, eachEntry, dueEvents, chargedEntries, stateAfter, handledOf}
 use Rattle.scheduler.specs.Meaning.{SizedState, loadAt, arrivalThere, arrivalAway, runsb, dueNext, allDueNext}
 use Rattle.scheduler.specs.declared.Load.{Load}
 use Rattle.scheduler.specs.declared.Entry.{Entry}
@@ -40,7 +40,7 @@ use Rattle.scheduler.proofs.Stated.{Stated, stated, entry-stated, every
 use Rattle.scheduler.proofs.KeptSizes.{charge-count, before-length}
 use Rattle.scheduler.proofs.HeldEach.{HeldEach, held-each, held-rests}
 use Rattle.scheduler.proofs.Again.{inb, ids-in, one-away, Moved, held-due, held-moved}
-use Rattle.scheduler.proofs.TickSound.{taskPeriod, task-delayed, state-parts}
+use Rattle.scheduler.proofs.TickSound.{task-delayed, state-parts}
 
 -- THE DUE ARRIVALS OF ONE SERVER
 
@@ -145,10 +145,10 @@ module _ (s : State) (z : SizedState s) (h : stateb s ≡ true) (i : ℕ) (l : i
   queue : HeldEach (taskReaches (serverAt s i .tasks)) (entryAt s i .arrivals)
   queue = held-each (taskReaches (serverAt s i .tasks)) (entryAt s i .arrivals) .0 (entry-stated (serverAt s i) (entryAt s i) .0 (parts .entry i l) .arrivals)
 
-  turned : Moved (taskPeriod (serverAt s i)) (entryAt s i .arrivals) (entryAt (stateAfter s) i .arrivals)
+  turned : Moved (taskDelay (serverAt s i)) (entryAt s i .arrivals) (entryAt (stateAfter s) i .arrivals)
   unfolding served4
   turned =
-      let m = held-moved (taskPeriod (serverAt s i)) (taskReaches (serverAt s i .tasks)) (entryAt s i .arrivals) queue (λ j r. task-delayed (serverAt s i) (every-server (s .table) (parts .servers) i l) j r .1) in
+      let m = held-moved (taskDelay (serverAt s i)) (taskReaches (serverAt s i .tasks)) (entryAt s i .arrivals) queue (λ j r. task-delayed (serverAt s i) (every-server (s .table) (parts .servers) i l) j r .1) in
       rw (after, same-arrivals) m
 
   -- "go in again T away", and every other comes 1 nearer: the same arrivals are there

@@ -21,10 +21,10 @@ use Rattle.table.specs.Limits.{entries}
 use Rattle.table.specs.Table.{zeroServer}
 use Rattle.table.specs.declared.Server.{Server}
 use Rattle.table.specs.declared.Table.{Table}
-use Rattle.scheduler.specs.State.{zeroLoad, zeroEntry, serverAt, entryAt}
+use Rattle.scheduler.specs.State.{zeroLoad, zeroEntry, withBudget, serverAt, entryAt}
 use Rattle.scheduler.specs.Sound.{entryb, stateb}
 use Rattle.scheduler.specs.Choice.{firstPending, readyb, wantsb, chosenOf, choiceBy, choiceOf}
-use Rattle.scheduler.specs.Tick.{charge, withBudget, refilled, dueIn, dueEvents, served4, eachEntry, chargedEntries, stateAfter, handledOf}
+use Rattle.scheduler.specs.Tick.{charge, refilled, dueIn, dueEvents, served4, eachEntry, chargedEntries, stateAfter, handledOf}
 use Rattle.scheduler.specs.Moves.{tabledb, withQueue, servedTurn}
 use Rattle.scheduler.specs.declared.Entry.{Entry}
 use Rattle.scheduler.specs.declared.EntryTurn.{EntryTurn}

@@ -25,11 +25,11 @@ use Rattle.table.specs.declared.Task.{Task}
 use Rattle.table.specs.declared.Server.{Server}
 use Rattle.table.specs.declared.Table.{Table}
 use Rattle.table.proofs.Soundness.{range-within}
-use Rattle.scheduler.specs.State.{mostPending, mostLost, load, serverAt, taskAt}
+use Rattle.scheduler.specs.State.{mostPending, mostLost, load, withBudget, serverAt, taskAt}
 use Rattle.scheduler.specs.Sound.{releaseReach, taskReaches, serverReaches, loadb, zeroLoadb, entryb, entriesb, stateb}
 use Rattle.scheduler.specs.Choice.{firstPending, chosenOf, choiceOf}
 use Rattle.scheduler.specs.Arrive.{fitsb, lostAfter, loadAfter, withArrival, withLoads, arrivedState, arriveOf}
-use Rattle.scheduler.specs.Tick.{lessWork, charge, dueIn, roomb, withBudget, refilled, periodAt, fullAt, refillsTurn, arrivedLoads, arrivalsTurn, served4, eachEntry, allRoomb, chargedEntries, stateAfter, handledOf, againb, tickedWith, tickOf}
+use Rattle.scheduler.specs.Tick.{lessWork, charge, dueIn, roomOf, taskDelay, refilled, periodAt, fullAt, refillsTurn, arrivedLoads, arrivalsTurn, served4, eachEntry, allRoomb, chargedEntries, stateAfter, handledOf, againb, tickedWith, tickOf}
 use Rattle.scheduler.specs.Run.{stateAfterTicks, ticksIn, runOf}
 use Rattle.scheduler.specs.declared.Load.{Load}
 use Rattle.scheduler.specs.declared.Entry.{Entry}
@@ -133,13 +133,9 @@ zero-reach t h = go (t .release) (both-right (eqb (t .work .0) 0) _ h)
     go OnArrival a = refl
     go (Periodic T O) a = contrary a refl
 
--- T away: how far a task's arrival is put in again
-abbrev pub taskPeriod : Server → ℕ → ℕ
-taskPeriod s id = periodOf (taskAt s id .release)
-
 module _ (s : Server) (k : ServerStated s) where
   -- a task that has arrivals of its own is in use, and its period is in reach
-  pub task-delayed : (j : ℕ) → 1 ≤ getD (taskReaches (s .tasks)) j 0 → (j < s .count) × Delayed (taskPeriod s) (taskReaches (s .tasks)) j
+  pub task-delayed : (j : ℕ) → 1 ≤ getD (taskReaches (s .tasks)) j 0 → (j < s .count) × Delayed (taskDelay s) (taskReaches (s .tasks)) j
   task-delayed j h =
       let e = task-reach (s .tasks) j in
       let u = in-use (taskb longest mostWork) zeroTaskb zeroTask refl (s .tasks) (s .count) j (k .tasks) (λ z. omega (arith, zero-reach (taskAt s j) z)) in
@@ -154,9 +150,8 @@ module _ (s : Server) (k : ServerStated s) where
     queue = held-each (taskReaches (s .tasks)) (e .arrivals) .0 (parts .arrivals)
 
     -- every arrival that is due finds room
-    serve-room : roomb (arrivalsTurn s e) ≡ true
-    serve-room =
-        eq-eqb _ 0 (held-accepted (taskPeriod s) (taskReaches (s .tasks)) (e .arrivals) queue (λ j m. task-delayed j m .1))
+    serve-room : roomOf (taskDelay s) (e .arrivals) ≡ true
+    serve-room = held-accepted (taskDelay s) (taskReaches (s .tasks)) (e .arrivals) queue (λ j m. task-delayed j m .1)
 
     serve-sound : entryb s (served4 s e) ≡ true
     unfolding served4
@@ -165,8 +160,8 @@ module _ (s : Server) (k : ServerStated s) where
           budget = parts .budget;
           loads = arrived-used s (s .count) (dueIn (e .arrivals)) (e .loads) used (parts .loads);
           arrivals =
-              held-each (taskReaches (s .tasks)) (arrivalsTurn s e .queue) .1
-              (held-again (taskPeriod s) (taskReaches (s .tasks)) (e .arrivals) queue (λ j m. task-delayed j m .1));
+              held-each (taskReaches (s .tasks)) (arrivalsTurn s e) .1
+              (held-again (taskDelay s) (taskReaches (s .tasks)) (e .arrivals) queue (λ j m. task-delayed j m .1));
         }
       where
         used : (j : ℕ) → inb j (dueIn (e .arrivals)) ≡ true → j < s .count
@@ -270,7 +265,7 @@ module _ (s : State) (h : stateb s ≡ true) where
   unfolding againb
   tick-room =
       rw
-      (eq-eqb _ 0 (held-accepted (periodAt s) (serverReaches (s .table .servers)) (s .refills) refills-each (server-delayed (s .table) (state .table))))
+      (held-accepted (periodAt s) (serverReaches (s .table .servers)) (s .refills) refills-each (server-delayed (s .table) (state .table)))
       (entries-room (s .table .servers) (s .entries) (table-every (s .table) (state .table)) (state .entries))
 
   -- the entries before step 4 are sound
@@ -288,7 +283,7 @@ module _ (s : State) (h : stateb s ≡ true) where
       state-parts (stateAfter s) .1 record {
         table = state .table;
         entries = entries-served ss _ (table-every (s .table) (state .table)) before-sound;
-        refills = held-each (serverReaches ss) (refillsTurn s .queue) .1 (held-again (periodAt s) (serverReaches ss) (s .refills) refills-each (server-delayed (s .table) (state .table)));
+        refills = held-each (serverReaches ss) (refillsTurn s) .1 (held-again (periodAt s) (serverReaches ss) (s .refills) refills-each (server-delayed (s .table) (state .table)));
       }
 
   pub tick-accepts : tickOf s ≡ tickedWith none (choiceOf s) (handledOf s) (stateAfter s)

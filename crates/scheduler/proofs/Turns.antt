@@ -19,14 +19,14 @@ use Rattle.queue.specs.Steps.{firstCell, dueStep, restStep, tickStep, placeStep
 use Rattle.queue.specs.declared.Queue.{Queue}
 use Rattle.queue.specs.declared.Changed.{Changed}
 use Rattle.queue.proofs.Events.{with-length}
-use Rattle.queue.proofs.Refusals.{take-accepted, clock-accepted, insert-place}
+use Rattle.queue.proofs.Refusals.{take-accepted, clock-accepted}
 use Rattle.queue.proofs.Keeps.{insert-events, insert-sound, clock-events, clock-sound, take-sound}
 use Rattle.queue.proofs.DueTimes.{take-first, take-gone}
 use Rattle.queue.proofs.Room.{room-for-eight}
 use Rattle.queue.proofs.Same.{clock-step, take-step, insert-step}
 use Rattle.table.specs.Limits.{entries}
 use Rattle.table.specs.Sound.{usedb}
-use Rattle.scheduler.specs.Tick.{clocked, dueIds, dueIn, again, turnOf}
+use Rattle.scheduler.specs.Tick.{clocked, dueIds, dueIn, putAgain, again, turnOf}
 use Rattle.scheduler.specs.Moves.{requeued, allOf, Turning}
 use Rattle.scheduler.proofs.Stated.{held, within-each}
 use Rattle.scheduler.proofs.HeldEach.{HeldEach, held-each, held-few, held-rests}
@@ -102,10 +102,6 @@ module _ (q : Queue) (s : soundb maxGap longest q ≡ true) where
 
 -- ONE TURN
 
--- an answer that is not refused and names no place is accepted
-accepted-is : (c : Changed) → c .refusal .number ≡ 0 → c .refusal .place ≡ 0 → c ≡ acceptedWith (c .queue)
-accepted-is c n p = λ i. record { refusal = record { number = n i; place = p i }; queue = c .queue }
-
 -- the first event is due and is put in again
 pub record Turned (delay : ℕ → ℕ) (q : Queue) : Type 0 where
   -- its place is one of the table's
@@ -113,7 +109,7 @@ pub record Turned (delay : ℕ → ℕ) (q : Queue) : Type 0 where
   -- the others that are due are still so, in their order, and it is not
   pub first : dueIds (eventsOf q) ≡ firstCell q .id ∷ dueIds (eventsOf (requeued delay q))
   -- there is room for it
-  pub again : insertOf maxGap longest (takeOf maxGap longest q .queue) (firstCell q .id) (delay (firstCell q .id)) ≡ acceptedWith (requeued delay q)
+  pub again : putAgain delay (firstCell q .id) q .queue ≡ requeued delay q
   -- and the queue is again one whose events can be put in again
   pub turning : Turning delay (requeued delay q)
 
@@ -138,7 +134,7 @@ turned delay q t d =
     record {
       small = rw i (each .0 .0);
       first = rw (q′, i, m, ids-with x (eventsOf (r .queue)) (ne-eqb (x .at) 0 (λ z. omega (arith, each .0 .1 .0))), e);
-      again = rw (q′, i) (accepted-is c n (insert-place maxGap longest (r .queue) (r .id) (delay (r .id))));
+      again = rw (q′, i);
       turning = rw q′ record {
         sound = insert-sound maxGap longest (r .queue) (r .id) (delay (r .id)) s;
         few = rw (m, with-length x (eventsOf (r .queue))) (omega (arith, t .few, ap length e));
@@ -150,8 +146,8 @@ turned delay q t d =
 
 module _ (delay : ℕ → ℕ) where
   -- what a queue comes to when all its due events are put in again
-  abbrev pub cameTo : Queue → Changed
-  cameTo q = again delay (dueIds (eventsOf q)) (acceptedWith q)
+  abbrev pub cameTo : Queue → Queue
+  cameTo q = again delay (dueIds (eventsOf q)) q
 
   -- it comes to the same after one turn
   pub came-more : (q : Queue) → Turned delay q → cameTo q ≡ cameTo (requeued delay q)

@@ -9,17 +9,16 @@ use Rattle.refusal.specs.Small.{both}
 use Rattle.queue.specs.Limits.{maxGap, longest}
 use Rattle.queue.specs.Row.{Event, eventsOf}
 use Rattle.queue.specs.Sound.{soundb}
-use Rattle.queue.specs.Calls.{acceptedWith}
 use Rattle.queue.specs.Steps.{firstCell, dueStep, againStep}
 use Rattle.queue.specs.declared.Queue.{Queue}
 use Rattle.table.specs.Limits.{mostWork, entries}
-use Rattle.table.specs.Table.{zeroServer, periodOf}
+use Rattle.table.specs.Table.{zeroServer}
 use Rattle.table.specs.Sound.{tasksb, tableb}
 use Rattle.table.specs.declared.Server.{Server}
 use Rattle.table.specs.declared.Table.{Table}
 use Rattle.scheduler.specs.State.{mostPending, taskAt}
 use Rattle.scheduler.specs.Arrive.{withArrival}
-use Rattle.scheduler.specs.Tick.{dueIds, dueIn, again, arrivedLoads, served4}
+use Rattle.scheduler.specs.Tick.{dueIds, dueIn, again, taskDelay, arrivedLoads, served4}
 use Rattle.scheduler.specs.declared.Load.{Load}
 use Rattle.scheduler.specs.declared.Entry.{Entry}
 use Rattle.scheduler.specs.declared.EntryTurn.{EntryTurn}
@@ -38,9 +37,6 @@ pub record Turning (delay : ℕ → ℕ) (q : Queue) : Type 0 where
   pub sound : soundb maxGap longest q ≡ true
   pub few : length (eventsOf q) ≤ entries
   pub each : allOf (λ (id : ℕ). (id < entries) × ((1 ≤ delay id) × (delay id ≤ longest))) (eventsOf q)
-
-abbrev pub taskDelay : Server → ℕ → ℕ
-taskDelay s id = periodOf (taskAt s id .release)
 
 -- the loads can take an arrival of every task
 abbrev pub pendingBelow : List Load → Type 0
@@ -74,7 +70,7 @@ unfoldable pub dueTurn : Server → Entry → EntryTurn
 dueTurn s e = record {
   entry = record {
     loads = arrivedLoads s (dueIds (eventsOf (e .arrivals))) (e .loads);
-    arrivals = again (taskDelay s) (dueIds (eventsOf (e .arrivals))) (acceptedWith (e .arrivals)) .queue;
+    arrivals = again (taskDelay s) (dueIds (eventsOf (e .arrivals))) (e .arrivals);
     budget = e .budget;
   };
   handled = length (dueIds (eventsOf (e .arrivals)));

@@ -30,6 +30,10 @@ zeroLoad = load 0 0
 abbrev pub zeroEntry : Entry
 zeroEntry = record { loads = replicate entries zeroLoad; arrivals = queueOf []; budget = served 0 }
 
+-- the entry with another budget
+abbrev pub withBudget : ℕ → Entry → Entry
+withBudget n e = record { loads = e .loads; arrivals = e .arrivals; budget = served n }
+
 -- the server and the entry at a place of the table, and a server's task at a place
 
 abbrev pub serverAt : State → ℕ → Server

@@ -10,12 +10,12 @@ use Rattle.refusal.specs.Refusal.{none, Check, check, firstOf}
 use Rattle.refusal.specs.declared.Refusal.{Refusal}
 use Rattle.queue.specs.Limits.{maxGap, longest}
 use Rattle.queue.specs.Row.{Event, eventsOf}
-use Rattle.queue.specs.Calls.{acceptedWith, clockOf, takeOf, insertOf}
+use Rattle.queue.specs.Calls.{clockOf, takeOf, insertOf}
 use Rattle.queue.specs.declared.Queue.{Queue}
 use Rattle.queue.specs.declared.Changed.{Changed}
 use Rattle.table.specs.Table.{served, periodOf}
 use Rattle.table.specs.declared.Server.{Server}
-use Rattle.scheduler.specs.State.{load, serverAt, taskAt}
+use Rattle.scheduler.specs.State.{load, withBudget, serverAt, taskAt}
 use Rattle.scheduler.specs.Choice.{firstPending, chosenOf, choiceOf}
 use Rattle.scheduler.specs.Sound.{stateb}
 use Rattle.scheduler.specs.Arrive.{withArrival}
@@ -48,29 +48,32 @@ abbrev pub dueIds : List Event → List ℕ
 dueIds [] = []
 dueIds (e ∷ es) = pick (eqb (e .at) 0) (e .id ∷ dueIds es) (dueIds es)
 
--- "In one queue, events are handled in queue order": one after another each is taken and put in again, its delay away. The answer is refused where
--- one has no room
-abbrev pub again : (ℕ → ℕ) → List ℕ → Changed → Changed
-again delay [] c = c
-again delay (id ∷ ids) c =
-    pick (eqb (c .refusal .number) 0)
-    (again delay ids (insertOf maxGap longest (takeOf maxGap longest (c .queue) .queue) id (delay id)))
-    c
+-- the first event, which is due, taken and put in again
+abbrev pub putAgain : (ℕ → ℕ) → ℕ → Queue → Changed
+putAgain delay id q = insertOf maxGap longest (takeOf maxGap longest q .queue) id (delay id)
 
--- the queue after its clock, with its due events put in again
+-- "In one queue, events are handled in queue order": one after another each is taken and put in again, its delay away
+abbrev pub again : (ℕ → ℕ) → List ℕ → Queue → Queue
+again delay [] q = q
+again delay (id ∷ ids) q = again delay ids (putAgain delay id q .queue)
+
+-- whether each of them finds room
+abbrev pub roomyb : (ℕ → ℕ) → List ℕ → Queue → Bool
+roomyb delay [] q = true
+roomyb delay (id ∷ ids) q = both (eqb (putAgain delay id q .refusal .number) 0) (roomyb delay ids (putAgain delay id q .queue))
+
+-- what the clock brings due in a queue; the queue with those put in again; and whether each finds room
+
 abbrev pub dueIn : Queue → List ℕ
 dueIn q = dueIds (eventsOf (clocked q))
 
-unfoldable pub turnOf : (ℕ → ℕ) → Queue → Changed
-turnOf delay q = again delay (dueIn q) (acceptedWith (clocked q))
+unfoldable pub turnOf : (ℕ → ℕ) → Queue → Queue
+turnOf delay q = again delay (dueIn q) (clocked q)
 
-abbrev pub roomb : Changed → Bool
-roomb c = eqb (c .refusal .number) 0
+unfoldable pub roomOf : (ℕ → ℕ) → Queue → Bool
+roomOf delay q = roomyb delay (dueIn q) (clocked q)
 
 -- "Due replenishments set the budget to C and are put in again P away."
-
-abbrev pub withBudget : ℕ → Entry → Entry
-withBudget n e = record { loads = e .loads; arrivals = e .arrivals; budget = served n }
 
 abbrev pub refilled : (ℕ → ℕ) → List ℕ → List Entry → List Entry
 refilled full [] es = es
@@ -82,7 +85,7 @@ periodAt s i = serverAt s i .period .0
 abbrev pub fullAt : State → ℕ → ℕ
 fullAt s i = serverAt s i .budget .0
 
-abbrev pub refillsTurn : State → Changed
+abbrev pub refillsTurn : State → Queue
 refillsTurn s = turnOf (periodAt s) (s .refills)
 
 -- "Then due task arrivals, by server rank, add E and go in again T away."
@@ -91,11 +94,14 @@ abbrev pub arrivedLoads : Server → List ℕ → List Load → List Load
 arrivedLoads s [] ls = ls
 arrivedLoads s (id ∷ ids) ls = arrivedLoads s ids (withArrival (taskAt s id .work .0) id ls)
 
-abbrev pub arrivalsTurn : Server → Entry → Changed
-arrivalsTurn s e = turnOf (λ (id : ℕ). periodOf (taskAt s id .release)) (e .arrivals)
+abbrev pub taskDelay : Server → ℕ → ℕ
+taskDelay s id = periodOf (taskAt s id .release)
+
+abbrev pub arrivalsTurn : Server → Entry → Queue
+arrivalsTurn s e = turnOf (taskDelay s) (e .arrivals)
 
 unfoldable pub served4 : Server → Entry → Entry
-served4 s e = record { loads = arrivedLoads s (dueIn (e .arrivals)) (e .loads); arrivals = arrivalsTurn s e .queue; budget = e .budget }
+served4 s e = record { loads = arrivedLoads s (dueIn (e .arrivals)) (e .loads); arrivals = arrivalsTurn s e; budget = e .budget }
 
 -- each server with its entry
 
@@ -107,7 +113,7 @@ eachEntry f (s ∷ ss) (e ∷ es) = f s e ∷ eachEntry f ss es
 abbrev pub allRoomb : List Server → List Entry → Bool
 allRoomb [] es = true
 allRoomb (s ∷ ss) [] = true
-allRoomb (s ∷ ss) (e ∷ es) = both (roomb (arrivalsTurn s e)) (allRoomb ss es)
+allRoomb (s ∷ ss) (e ∷ es) = both (roomOf (taskDelay s) (e .arrivals)) (allRoomb ss es)
 
 -- the events due in step 4, over the servers' queues
 abbrev pub dueEvents : List Entry → ℕ
@@ -124,7 +130,7 @@ unfoldable pub stateAfter : State → State
 stateAfter s = record {
   entries = eachEntry served4 (s .table .servers) (refilled (fullAt s) (dueIn (s .refills)) (chargedEntries s));
   table = s .table;
-  refills = refillsTurn s .queue;
+  refills = refillsTurn s;
 }
 
 -- "how many events it handled: replenishments and arrivals, lost ones included. That count equals the events due in step 4."
@@ -133,7 +139,7 @@ handledOf s = length (dueIn (s .refills)) + dueEvents (s .entries)
 
 -- every event that is due can be put in again
 unfoldable pub againb : State → Bool
-againb s = both (roomb (refillsTurn s)) (allRoomb (s .table .servers) (s .entries))
+againb s = both (roomOf (periodAt s) (s .refills)) (allRoomb (s .table .servers) (s .entries))
 
 abbrev pub tickChecks : State → List Check
 tickChecks s = check unsound (not (stateb s)) ∷ check noRoomAgain (not (againb s)) ∷ []

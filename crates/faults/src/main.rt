@@ -85,7 +85,7 @@ fn worked() -> [u8; 50] {
 fn wrong() -> [u8; 50] {
     let mut s = [0; 50];
     start(&mut s, 49, 2, 0);
-    server(&mut s, 4, 3, 9, 0, 0);
+    server(&mut s, 4, 4, 9, 0, 0);
     task(&mut s, 14, 2, 0, 1, 1);
     server(&mut s, 27, 0, 255, 1_000_001, 6);
     task(&mut s, 37, 255, 1_000_001, 0, 1_000_001);
@@ -211,7 +211,7 @@ fn counts() {
 fn server_values() {
     with_server(4, 0, 1, 4, 2);
     with_server(4, 1, 1, 4, 2);
-    with_server(4, 3, 9, 4, 2);
+    with_server(4, 4, 9, 4, 2);
     with_server(4, 2, 1, 0, 0);
     with_server(4, 2, 1, 1, 1);
     with_server(4, 2, 1, 4, 0);

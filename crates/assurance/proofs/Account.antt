@@ -83,7 +83,7 @@ module _ {P C N : ℕ} {budget due : ℕ → ℕ} {ran : ℕ → Bool} (A : Acco
             spans m (b + due b) (next b (omega arith)) (n - due b) (omega arith) (omega arith),
           ))
 
-  -- Up to the next refill, where nothing of the budget is lost, and each tick with budget is run or missed:
+  -- Up to the next refill, where nothing of the budget is lost before the last tick, and each tick with budget is run or missed:
   -- every tick is run or missed, or the whole budget is run.
   module _ (missed : ℕ → Bool) (b : ℕ) where
     exactly : (n : ℕ) → n < due b → b + n ≤ N
@@ -98,7 +98,7 @@ module _ {P C N : ℕ} {budget due : ℕ → ℕ} {ran : ℕ → Bool} (A : Acco
         rw (add-suc b n) (omega arith)
 
     pub busy : (n : ℕ) → n ≤ due b → b + n ≤ N
-        → ((x : ℕ) → x < n → 1 < due (b + x) → budget (suc (b + x)) + num (ran (b + x)) ≡ budget (b + x))
+        → ((x : ℕ) → suc x < n → 1 < due (b + x) → budget (suc (b + x)) + num (ran (b + x)) ≡ budget (b + x))
         → ((x : ℕ) → x < n → 0 < budget (b + x) → 1 ≤ num (ran (b + x)) + num (missed (b + x)))
         → (n ≤ counted ran b n + counted missed b n) ⊎ (budget b ≤ counted ran b n)
     unfolding sumBelow

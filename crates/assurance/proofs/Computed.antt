@@ -7,15 +7,16 @@ use Rattle.queue.specs.Calls.{insertOf, clockOf, takeOf}
 use Rattle.table.specs.Sound.{tableb}
 use Rattle.scheduler.specs.Sound.{entryb, stateb}
 use Rattle.scheduler.specs.Choice.{wantsb, chosenOf, choiceOf}
+use Rattle.scheduler.specs.Polling.{lapsed}
 use Rattle.scheduler.specs.Arrive.{loadAfter, arriveOf}
 use Rattle.scheduler.specs.Tick.{charge, turnOf, roomOf, served4, stateAfter, handledOf, againb, tickOf}
 use Rattle.scheduler.specs.Run.{runOf}
 use Rattle.scheduler.specs.Fresh.{freshQueue, freshEntry, freshState, freshOf}
-use Rattle.assurance.specs.Demand3.{sumBelow, ceil, mostHeld, sure, ticksOf, periodTicks, tally}
+use Rattle.assurance.specs.Demand3.{sumBelow, ceil, mostHeld, sure, ticksOf, periodTicks, periodEnds, tally}
 use Rattle.assurance.specs.Worked.{Worked}
 
 pub worked : Worked
-unfolding insertOf clockOf takeOf holdsb soundb sameb cellsOf queueOf cellsFor tableb entryb stateb wantsb chosenOf choiceOf loadAfter arriveOf charge turnOf roomOf served4 stateAfter handledOf againb tickOf runOf freshQueue freshEntry freshState freshOf sumBelow ceil mostHeld sure ticksOf periodTicks tally
+unfolding insertOf clockOf takeOf holdsb soundb sameb cellsOf queueOf cellsFor tableb entryb stateb wantsb chosenOf choiceOf lapsed loadAfter arriveOf charge turnOf roomOf served4 stateAfter handledOf againb tickOf runOf freshQueue freshEntry freshState freshOf sumBelow ceil mostHeld sure ticksOf periodTicks periodEnds tally
 worked =
     record {
       worked-W = refl;
@@ -27,4 +28,22 @@ worked =
       tight-held = refl;
       tight-sure = refl;
       tight-runs = refl;
+      polled-sound = refl;
+      polled-whole = refl;
+      polled-works = refl;
+      polled-held = refl;
+      polled-sure = refl;
+      polled-runs = refl;
+      ending-sound = refl;
+      ending-whole = refl;
+      ending-works = refl;
+      ending-done = refl;
+      ending-runs = refl;
+      late-sound = refl;
+      late-whole = refl;
+      late-wants = refl;
+      late-before = refl;
+      late-ends = refl;
+      late-sure = refl;
+      late-runs = refl;
     }

@@ -1,12 +1,12 @@
 -- Every history of calls from a sound state is a row of ticks that do what the scheduler's laws say. Assumes nothing.
 use mathlib.Core.Path.{_≡_, refl, ap, _∙_}
-use mathlib.Core.Bool.{Bool, true}
-use mathlib.Core.List.{List, [], _∷_, _++_}
-use Prim.Native.Nat.{ℕ, zero, suc, _+_, _-_, _<_, min}
+use mathlib.Core.Bool.{Bool, true, false}
+use mathlib.Core.List.{List, [], _∷_, _++_, map}
+use Prim.Native.Nat.{ℕ, zero, suc, _+_, _-_, _≤_, _<_, min}
 use native.Mathlib.Nat.{zero-add, suc-add}
 use native.Mathlib.Omega.{arith}
-use lib.ListN.{length, take, drop, getD, replicate, length-take, length-drop}
-use lib.Seq.{getD-take, getD-drop}
+use lib.ListN.{length, take, drop, getD, replicate, length-map, length-take, length-drop}
+use lib.Seq.{drop-cons, getD-take, getD-drop}
 use Rattle.queue.specs.Limits.{longest}
 use Rattle.queue.specs.declared.Queue.{Queue}
 use Rattle.queue.proofs.DueTimes.{away}
@@ -16,12 +16,11 @@ use Rattle.table.specs.Meaning.{Sized}
 use Rattle.table.specs.declared.Table.{Table}
 use Rattle.table.proofs.Soundness.{table-sound}
 use Rattle.scheduler.specs.Sound.{stateb}
-use Rattle.scheduler.specs.Choice.{choiceOf, servesb}
 use Rattle.scheduler.specs.Arrive.{arriveOf}
-use Rattle.scheduler.specs.Tick.{stateAfter, tickOf}
+use Rattle.scheduler.specs.Tick.{tickOf}
 use Rattle.scheduler.specs.Run.{ticksIn}
 use Rattle.scheduler.specs.Fresh.{freshState, freshOf}
-use Rattle.scheduler.specs.Meaning.{SizedState, budgetAt, refillAway}
+use Rattle.scheduler.specs.Meaning.{SizedState, lapsesAt}
 use Rattle.scheduler.specs.declared.State.{State}
 use Rattle.scheduler.specs.declared.Choice.{Choice}
 use Rattle.scheduler.specs.declared.Choice.the-variants.{Idle}
@@ -29,10 +28,10 @@ use Rattle.scheduler.proofs.TickSound.{tick-sound, tick-accepts, arrive-sound}
 use Rattle.scheduler.proofs.FreshSound.{fresh-sound, fresh-made, fresh-budget, fresh-refill}
 use Rattle.scheduler.proofs.KeptSizes.{tick-sized, arrive-sized, fresh-sized}
 use Rattle.scheduler.proofs.FirstReady.{chosen-first}
-use Rattle.scheduler.proofs.Laws.{tick-spent, tick-filled, arrive-budget, arrive-refills, arrive-table, tick-table}
-use Rattle.assurance.specs.Demand3.{periodIn, budgetIn, sumBelow, Call, tick, run, arrival, Seen, ticksOf, ticksAsked, num, tally}
-use Rattle.assurance.proofs.Sum.{sum-same, sum-front}
-use Rattle.assurance.proofs.Ticks.{OneTick, Full, Run}
+use Rattle.scheduler.proofs.Laws.{tick-spent, tick-filled, arrive-budget, arrive-refills, arrive-table, arrive-pending, tick-table}
+use Rattle.assurance.specs.Demand3.{periodIn, sumBelow, Call, tick, run, arrival, Seen, ticksOf, ticksAsked, tickEnd, endBefore, num, tally}
+use Rattle.assurance.proofs.Sum.{sum-same, sum-term, sum-front}
+use Rattle.assurance.proofs.Ticks.{Full, OneTick, Since, Run, at-most}
 use Rattle.assurance.proofs.RunTicks.{seen-tick, run-ticks}
 
 -- sound, with its arrays' lengths, and of the table t
@@ -41,17 +40,10 @@ pub record SoundOf (t : Table) (s : State) : Type 0 where
   pub sized : SizedState s
   pub sound : stateb s ≡ true
 
--- s and w show the same budgets and refills
-abbrev Same : State → State → Type 0
-Same s w = (i : ℕ) → (budgetAt w i ≡ budgetAt s i) × (refillAway w i ≡ refillAway s i)
-
-then : (s v w : State) → Same s v → Same v w → Same s w
-then s v w p q i = (q i .0 ∙ p i .0, q i .1 ∙ p i .1)
-
--- A ROW of ticks from the state s to the state e: each does what the laws say, and between two of them no budget and no refill changes
+-- A ROW of ticks from the state s to the state e: each does what the laws say, and between two of them there are arrivals only
 abbrev Row : Table → State → List Seen → State → Type 0
-Row t s [] e = Same s e
-Row t s (x ∷ xs) e = Same s (x .state) × (w : State) × OneTick t (x .state) (x .choice) w × Row t w xs e
+Row t s [] e = Since t s e
+Row t s (x ∷ xs) e = Since t s (x .state) × OneTick t (x .state) (x .choice) (tickEnd x) × Row t (tickEnd x) xs e
 
 -- n ticks in a row
 pub record Rowed (t : Table) (s : State) (xs : List Seen) (n : ℕ) : Type 0 where
@@ -61,14 +53,46 @@ pub record Rowed (t : Table) (s : State) (xs : List Seen) (n : ℕ) : Type 0 whe
 
 -- tick x of a row that ends at e: behind the last one, that state
 
-abbrev pub tickAt : State → List Seen → ℕ → Seen
-tickAt e xs x = getD xs x record { state = e; choice = Idle }
+abbrev pub noTick : State → Seen
+noTick e = record { state = e; choice = Idle }
 
 abbrev pub stateAt : State → List Seen → ℕ → State
-stateAt e xs x = tickAt e xs x .state
+stateAt e xs x = getD xs x (noTick e) .state
 
 abbrev pub choiceAt : State → List Seen → ℕ → Choice
-choiceAt e xs x = tickAt e xs x .choice
+choiceAt e xs x = getD xs x (noTick e) .choice
+
+-- the ends of the ticks of a row from the state s on, each one place late
+
+abbrev pub endsOf : State → List Seen → List State
+endsOf s xs = s ∷ map tickEnd xs
+
+abbrev pub endAt : State → State → List Seen → ℕ → State
+endAt e s xs x = getD (endsOf s xs) x e
+
+-- of a period that is whole: the end before it and the ends of its ticks but the last are as many of these from its begin on
+
+map-drop : {A B : Type 0} (f : A → B) (b : ℕ) (xs : List A) → drop b (map f xs) ≡ map f (drop b xs)
+map-drop f zero xs = refl
+map-drop f (suc b) [] = refl
+map-drop f (suc b) (x ∷ xs) = map-drop f b xs
+
+map-less : {A B : Type 0} (f : A → B) (p : ℕ) (xs : List A) → map f (take p (take (suc p) xs)) ≡ take p (map f xs)
+map-less f zero xs = refl
+map-less f (suc p) [] = refl
+map-less f (suc p) (x ∷ xs) = ap (λ ys. f x ∷ ys) (map-less f p xs)
+
+end-before : (s : State) (xs : List Seen) (b : ℕ) → endBefore s xs b ≡ getD (endsOf s xs) b s
+end-before s xs zero = refl
+end-before s xs (suc b) = refl
+
+pub ends-whole : (s : State) (xs : List Seen) (b P : ℕ) → 0 < P → b + P ≤ length xs
+    → endBefore s xs b ∷ map tickEnd (take (P - 1) (take P (drop b xs))) ≡ take P (drop b (endsOf s xs))
+ends-whole s xs b zero l h = absurd (omega arith)
+ends-whole s xs b (suc p) l h =
+    let g : b < length (endsOf s xs) = omega (arith, length-map xs tickEnd) in
+    let e : suc p - 1 ≡ p = omega arith in
+    rw (e, drop-cons (endsOf s xs) b s g, ← end-before s xs b, map-drop tickEnd b xs) (ap (λ ys. endBefore s xs b ∷ ys) (map-less tickEnd p (drop b xs)))
 
 module _ (t : Table) where
   -- ONE CALL
@@ -84,21 +108,23 @@ module _ (t : Table) where
     sound = arrive-sound s (k .sound) i j;
   }
 
-  same-arrival : (s : State) (i j : ℕ) → Same s (arriveOf s i j .state)
-  same-arrival s i j k = (arrive-budget s i j k, ap (λ (q : Queue). away k q) (arrive-refills s i j))
+  since-none : (s : State) → SoundOf t s → Since t s s
+  since-none s k = record { tables = (k .table, k .table); budget = λ i. refl; refill = λ i. refl; work = λ i h. h }
+
+  since-arrival : (s w : State) (i j : ℕ) → SoundOf t s → Since t (arriveOf s i j .state) w → Since t s w
+  since-arrival s w i j k n = record {
+    tables = (k .table, n .tables .1);
+    budget = λ m. n .budget m ∙ arrive-budget s i j m;
+    refill = λ m. n .refill m ∙ ap (λ (q : Queue). away m q) (arrive-refills s i j);
+    work = λ m h. n .work m (arrive-pending s i j m h);
+  }
 
   tick-law : (s : State) → SoundOf t s → OneTick t s (tickOf s .choice) (tickOf s .state)
-  tick-law s k = rw (tick-accepts s (k .sound)) record { first = chosen-first s (k .sized) (k .sound); spent = spent; filled = filled }
-    where
-      spent : (i : ℕ) → i < t .count → 1 < refillAway s i
-          → (budgetAt (stateAfter s) i ≡ budgetAt s i - num (servesb (choiceOf s) i)) × (refillAway (stateAfter s) i ≡ refillAway s i - 1)
-      spent i l m = let r = tick-spent s (k .sized) (k .sound) i (rw (k .table) l) m in (r .budget, r .refill)
-
-      filled : (i : ℕ) → i < t .count → refillAway s i ≡ 1
-          → (budgetAt (stateAfter s) i ≡ budgetIn t i) × (refillAway (stateAfter s) i ≡ periodIn t i)
-      filled i l m =
-          let r = tick-filled s (k .sized) (k .sound) i (rw (k .table) l) m in
-          (r .budget ∙ ap (λ (x : Table). budgetIn x i) (k .table), r .refill ∙ ap (λ (x : Table). periodIn x i) (k .table))
+  tick-law s k = rw (tick-accepts s (k .sound)) record {
+    first = chosen-first s (k .sized) (k .sound);
+    spent = λ i l m. let r = tick-spent s (k .sized) (k .sound) i (rw (k .table) l) m in (r .budget, r .refill);
+    filled = λ i l m. let r = tick-filled s (k .sized) (k .sound) i (rw (k .table) l) m in rw (← k .table) (r .budget, r .refill);
+  }
 
   -- A ROW OF CALLS
 
@@ -106,14 +132,14 @@ module _ (t : Table) where
   abbrev Follows : List Call → Type 0
   Follows cs = (s : State) → SoundOf t s → Rowed t s (ticksOf s cs) (ticksAsked cs)
 
-  row-from : (s v e : State) (xs : List Seen) → Same s v → Row t v xs e → Row t s xs e
-  row-from s v e [] p r = then s v e p r
-  row-from s v e (x ∷ xs) p r = (then s v (x .state) p (r .0), r .1, r .2, r .3)
+  row-arrival : (s e : State) (i j : ℕ) (xs : List Seen) → SoundOf t s → Row t (arriveOf s i j .state) xs e → Row t s xs e
+  row-arrival s e i j [] k r = since-arrival s e i j k r
+  row-arrival s e i j (x ∷ xs) k r = (since-arrival s (x .state) i j k (r .0), r .1, r .2)
 
   and-tick : (cs : List Call) (n : ℕ) (s : State) → SoundOf t s → Rowed t (tickOf s .state) (ticksOf (tickOf s .state) cs) n → Rowed t s (ticksOf s (tick ∷ cs)) (suc n)
   and-tick cs n s h r = rw (seen-tick s (h .sound) cs) record {
     end = r .end;
-    row = (λ i. (refl, refl), tickOf s .state, tick-law s h, r .row);
+    row = (since-none s h, tick-law s h, r .row);
     number = ap suc (r .number);
   }
 
@@ -123,55 +149,60 @@ module _ (t : Table) where
 
   pub history : (cs : List Call) → Follows cs
   unfolding ticksOf ticksAsked
-  history [] s h = record { end = s; row = λ i. (refl, refl); number = refl }
+  history [] s h = record { end = s; row = since-none s h; number = refl }
   history (tick ∷ cs) s h = and-tick cs (ticksAsked cs) s h (history cs (tickOf s .state) (sound-tick s h))
   history (run k ∷ cs) s h = rw (run-ticks s k cs) (and-ticks cs (λ v g. history cs v g) (ticksIn k) s h)
   history (arrival i j ∷ cs) s h =
       let v = arriveOf s i j .state in
       let r = history cs v (sound-arrival s i j h) in
-      record { end = r .end; row = row-from s v (r .end) (ticksOf v cs) (same-arrival s i j) (r .row); number = r .number }
+      record { end = r .end; row = row-arrival s (r .end) i j (ticksOf v cs) h (r .row); number = r .number }
 
   -- ITS TICKS
 
-  then-same : {s w w′ : State} {c : Choice} → OneTick t s c w → Same w w′ → OneTick t s c w′
-  then-same o q = record {
-    first = o .first;
-    spent = λ i l h. let p = o .spent i l h in (q i .0 ∙ p .0, q i .1 ∙ p .1);
-    filled = λ i l h. let p = o .filled i l h in (q i .0 ∙ p .0, q i .1 ∙ p .1);
-  }
-
   module _ (e : State) where
-    row-first : (s : State) (xs : List Seen) → Row t s xs e → Same s (stateAt e xs 0)
-    row-first s [] r = r
-    row-first s (x ∷ xs) r = r .0
+    row-since : (s : State) (xs : List Seen) → Row t s xs e → (x : ℕ) → x ≤ length xs → Since t (endAt e s xs x) (stateAt e xs x)
+    row-since s [] r zero l = r
+    row-since s [] r (suc x) l = absurd (omega arith)
+    row-since s (y ∷ ys) r zero l = r .0
+    row-since s (y ∷ ys) r (suc x) l = row-since (tickEnd y) ys (r .2) x (omega arith)
 
-    row-tick : (s : State) (xs : List Seen) → Row t s xs e → (x : ℕ) → x < length xs → OneTick t (stateAt e xs x) (choiceAt e xs x) (stateAt e xs (suc x))
+    row-tick : (s : State) (xs : List Seen) → Row t s xs e → (x : ℕ) → x < length xs
+        → OneTick t (stateAt e xs x) (choiceAt e xs x) (endAt e s xs (suc x))
     row-tick s [] r x l = absurd (omega arith)
-    row-tick s (y ∷ ys) r zero l = then-same (r .2) (row-first (r .1) ys (r .3))
-    row-tick s (y ∷ ys) r (suc x) l = row-tick (r .1) ys (r .3) x (omega arith)
+    row-tick s (y ∷ ys) r zero l = r .1
+    row-tick s (y ∷ ys) r (suc x) l = row-tick (tickEnd y) ys (r .2) x (omega arith)
 
--- A PART of a row: n ticks from tick b on, or as many as there are
+-- A PART of a list: n elements from place b on, or as many as there are; d stands behind the last one
 
-count-sum : (p : Seen → Bool) (d : Seen) (xs : List Seen) → tally p xs ≡ sumBelow (λ x. num (p (getD xs x d))) (length xs)
-unfolding tally sumBelow
-count-sum p d [] = refl
-count-sum p d (x ∷ xs) = omega (arith, count-sum p d xs, sum-front (λ y. num (p (getD (x ∷ xs) y d))) (length xs))
+module _ {A : Type 0} (d : A) where
+  count-sum : (p : A → Bool) (xs : List A) → tally p xs ≡ sumBelow (λ x. num (p (getD xs x d))) (length xs)
+  unfolding tally sumBelow
+  count-sum p [] = refl
+  count-sum p (x ∷ xs) = omega (arith, count-sum p xs, sum-front (λ y. num (p (getD (x ∷ xs) y d))) (length xs))
 
-module _ (e : State) (xs : List Seen) (b n : ℕ) where
-  abbrev part : List Seen
-  part = take n (drop b xs)
+  module _ (xs : List A) (b n : ℕ) where
+    abbrev part : List A
+    part = take n (drop b xs)
 
-  pub part-length : length part ≡ min n (length xs - b)
-  part-length = simp (length-take, length-drop)
+    pub part-length : length part ≡ min n (length xs - b)
+    part-length = simp (length-take, length-drop)
 
-  pub part-count : (p : Seen → Bool) → tally p part ≡ sumBelow (λ x. num (p (tickAt e xs (b + x)))) (length part)
-  part-count p = count-sum p d part ∙ sum-same _ _ (length part) (λ x l. ap (λ (y : Seen). num (p y)) (at x l))
-    where
-      d : Seen
-      d = record { state = e; choice = Idle }
+    pub part-count : (p : A → Bool) → tally p part ≡ sumBelow (λ x. num (p (getD xs (b + x) d))) (length part)
+    part-count p = count-sum p part ∙ sum-same _ _ (length part) (λ x l. ap (λ (y : A). num (p y)) (at x l))
+      where
+        at : (x : ℕ) → x < length part → getD part x d ≡ getD xs (b + x) d
+        at x l = let m : x < n = omega (arith, part-length) in rw (getD-take n (drop b xs) x d m, getD-drop)
 
-      at : (x : ℕ) → x < length part → getD part x d ≡ getD xs (b + x) d
-      at x l = let m : x < n = omega (arith, part-length) in rw (getD-take n (drop b xs) x d m, getD-drop)
+    -- where none passes the test, it fails at each place
+    pub part-none : (p : A → Bool) → tally p part ≡ 0 → (x : ℕ) → b ≤ x → x < b + n → x < length xs → p (getD xs x d) ≡ false
+    part-none p z x l m h =
+        let e : b + (x - b) ≡ x = omega arith in
+        rw e at (off (p (getD xs (b + (x - b)) d))
+        (omega (arith, part-count p, sum-term (λ y. num (p (getD xs (b + y) d))) (length part) (x - b) (omega (arith, part-length)))))
+      where
+        off : (b : Bool) → num b ≤ 0 → b ≡ false
+        off true k = absurd (omega arith)
+        off false k = refl
 
 -- FROM A FRESH SETUP
 
@@ -183,7 +214,7 @@ module _ (t : Table) (z : Sized t) (h : tableb longest mostWork t ≡ true) wher
   unfolding freshState
   start = rw (fresh-made t h) record { table = refl; sized = fresh-sized t z; sound = fresh-sound t h }
 
-  start-full : (i : ℕ) → Full t (freshOf t .state) i
+  pub start-full : (i : ℕ) → Full t (freshOf t .state) i
   unfolding freshState
   start-full i = rw (fresh-made t h) (fresh-budget t h i, fresh-refill t h i)
 
@@ -197,15 +228,10 @@ module _ (t : Table) (z : Sized t) (h : tableb longest mostWork t ≡ true) wher
     abbrev endAll : State
     endAll = fresh-row .end
 
-    pub first-full : (i : ℕ) → Full t (stateAt endAll seenAll 0) i
-    first-full i =
-        let p = start-full i in
-        let q = row-first t endAll (freshOf t .state) seenAll (fresh-row .row) i in
-        (q .0 ∙ p .0, q .1 ∙ p .1)
-
-    pub all-run : Run t (length seenAll) (stateAt endAll seenAll) (choiceAt endAll seenAll)
+    pub all-run : Run t (length seenAll) (endAt endAll (freshOf t .state) seenAll) (stateAt endAll seenAll) (choiceAt endAll seenAll)
     all-run = record {
       periods = period-low;
-      start = λ i l. omega (arith, period-low i l, first-full i);
+      start = λ i l. let f = start-full i in omega (arith, period-low i l, f .1, at-most (lapsesAt (freshOf t .state) i) (f .0));
+      since = row-since t endAll (freshOf t .state) seenAll (fresh-row .row);
       tick = row-tick t endAll (freshOf t .state) seenAll (fresh-row .row);
     }

@@ -1,5 +1,5 @@
 -- Demand 3's three parts, of the windows of any row of ticks that do what the scheduler's laws say. Assumes nothing.
-use mathlib.Core.Path.{_≡_, refl}
+use mathlib.Core.Path.{_≡_, refl, _∙_}
 use mathlib.Core.Logic.{_⊎_, inl, inr}
 use mathlib.Core.Bool.{Bool, true, false, not}
 use Prim.Native.Nat.{ℕ, zero, suc, _+_, _-_, _*_, _≤_, _<_, min}
@@ -7,11 +7,12 @@ use native.Mathlib.Decide.{decLt}
 use native.Mathlib.Omega.{arith}
 use lib.Dec.{ltb, eqb}
 use borrow.Author.Tests.{eqb-true, eq-eqb, ltb-true, lt-ltb}
-use Rattle.refusal.specs.Small.{both}
+use Rattle.refusal.specs.Small.{pick, both}
 use Rattle.refusal.proofs.Small.{both-right, both-false}
 use Rattle.table.specs.declared.Table.{Table}
-use Rattle.scheduler.specs.Choice.{servesb}
-use Rattle.scheduler.specs.Meaning.{readyAt, budgetAt, refillAway, Highest, Chosen}
+use Rattle.scheduler.specs.State.{entryAt}
+use Rattle.scheduler.specs.Choice.{somePending, servesb}
+use Rattle.scheduler.specs.Meaning.{readyAt, budgetAt, lapsesAt, refillAway, Highest, Chosen}
 use Rattle.scheduler.specs.declared.State.{State}
 use Rattle.scheduler.specs.declared.Choice.{Choice}
 use Rattle.scheduler.specs.declared.Choice.the-variants.{Idle, Burning, Running}
@@ -21,22 +22,35 @@ use Rattle.assurance.proofs.Account.{Account, counted, most, busy, last
 
 -- THE INTERFACE: what the scheduler's laws say of one tick, for demand 3 to hold of every row of ticks
 
--- One tick, from the state s to the state w: the highest ready server is charged, then every refill comes one tick nearer, and one that is due sets the
--- budget to its size. Nothing is said of what w's servers want: that is up to arrivals.
+-- of server i, from the state s to the state w: what it was served is gone from its budget, or the budget given up, and its refill is one tick nearer
+abbrev pub Nearer : State → Choice → State → ℕ → Type 0
+Nearer s c w i = (budgetAt w i ≡ pick (lapsesAt w i) 0 (budgetAt s i - num (servesb c i))) × (refillAway w i ≡ refillAway s i - 1)
+
+-- its budget is full, or given up, and its refill a period away: so begins each of its periods
+abbrev pub Full : Table → State → ℕ → Type 0
+Full t w i = (budgetAt w i ≡ pick (lapsesAt w i) 0 (budgetIn t i)) × (refillAway w i ≡ periodIn t i)
+
+-- One tick, from the state s to the state w at its end: the highest ready server is charged, then every refill comes one tick nearer, and one that is due sets
+-- the budget to its size. At last some budgets are given up.
 pub record OneTick (t : Table) (s : State) (c : Choice) (w : State) : Type 0 where
   pub first : Chosen s c
-  pub spent : (i : ℕ) → i < t .count → 1 < refillAway s i → (budgetAt w i ≡ budgetAt s i - num (servesb c i)) × (refillAway w i ≡ refillAway s i - 1)
-  pub filled : (i : ℕ) → i < t .count → refillAway s i ≡ 1 → (budgetAt w i ≡ budgetIn t i) × (refillAway w i ≡ periodIn t i)
+  pub spent : (i : ℕ) → i < t .count → 1 < refillAway s i → Nearer s c w i
+  pub filled : (i : ℕ) → i < t .count → refillAway s i ≡ 1 → Full t w i
 
--- server i's budget is full, and its refill a period away: so begins each of its periods
-abbrev pub Full : Table → State → ℕ → Type 0
-Full t s i = (budgetAt s i ≡ budgetIn t i) × (refillAway s i ≡ periodIn t i)
+-- Two states of the table t, v being w with the arrivals since: no budget and no refill changes, and no work is taken away. More is not said of what v's
+-- servers want: that is up to arrivals.
+pub record Since (t : Table) (w v : State) : Type 0 where
+  pub tables : (w .table ≡ t) × (v .table ≡ t)
+  pub budget : (i : ℕ) → budgetAt v i ≡ budgetAt w i
+  pub refill : (i : ℕ) → refillAway v i ≡ refillAway w i
+  pub work : (i : ℕ) → somePending (entryAt w i .loads) ≡ true → somePending (entryAt v i .loads) ≡ true
 
--- N ticks: v x is the state before tick x, and c x is whom tick x serves
-pub record Run (t : Table) (N : ℕ) (v : ℕ → State) (c : ℕ → Choice) : Type 0 where
+-- N ticks: v x is the state before tick x, c x is whom tick x serves, and u x is the end of the tick before it
+pub record Run (t : Table) (N : ℕ) (u v : ℕ → State) (c : ℕ → Choice) : Type 0 where
   pub periods : (i : ℕ) → i < t .count → 0 < periodIn t i
-  pub start : (i : ℕ) → i < t .count → (0 < refillAway (v 0) i) × (budgetAt (v 0) i ≤ budgetIn t i)
-  pub tick : (x : ℕ) → x < N → OneTick t (v x) (c x) (v (suc x))
+  pub start : (i : ℕ) → i < t .count → (0 < refillAway (u 0) i) × (budgetAt (u 0) i ≤ budgetIn t i)
+  pub since : (x : ℕ) → x ≤ N → Since t (u x) (v x)
+  pub tick : (x : ℕ) → x < N → OneTick t (v x) (c x) (u (suc x))
 
 -- ONE TICK
 
@@ -56,6 +70,11 @@ charged s c f i = go (servesb c i) refl
     go : (b : Bool) → servesb c i ≡ b → num b ≤ budgetAt s i
     go false e = omega arith
     go true e = omega (arith, ltb-true 0 (budgetAt s i) (both-right (wantsAt s i) (ltb 0 (budgetAt s i)) (served-ready s c f i e)))
+
+-- a budget that may be given up is at most what it would be
+pub at-most : (b : Bool) {m n : ℕ} → m ≡ pick b 0 n → m ≤ n
+at-most true e = omega arith
+at-most false e = omega arith
 
 -- one that wants and has budget is served or held off
 one : (w : Bool) (b : ℕ) (r : Bool) → w ≡ true → 0 < b → 1 ≤ num r + num (both (both w (ltb 0 b)) (not r))
@@ -86,47 +105,66 @@ ran c i x = servesb (c x) i
 abbrev pub missed : (ℕ → State) → (ℕ → Choice) → ℕ → ℕ → Bool
 missed v c i x = both (readyAt (v x) i) (not (servesb (c x) i))
 
-module _ (t : Table) (N : ℕ) (v : ℕ → State) (c : ℕ → Choice) (R : Run t N v c) where
-  account : (i : ℕ) → i < t .count → Account (periodIn t i) (budgetIn t i) N (λ x. budgetAt (v x) i) (λ x. refillAway (v x) i) (ran c i)
+module _ (t : Table) (N : ℕ) (u v : ℕ → State) (c : ℕ → Choice) (R : Run t N u v c) where
+  -- one tick, from the end of the tick before on
+
+  charge : (i x : ℕ) → x < N → num (ran c i x) ≤ budgetAt (u x) i
+  charge i x h = omega (arith, charged (v x) (c x) (R .tick x h .first) i, R .since x (omega arith) .budget i)
+
+  spent : (i : ℕ) → i < t .count → (x : ℕ) → x < N → 1 < refillAway (u x) i → Nearer (u x) (c x) (u (suc x)) i
+  spent i l x h d =
+      let s = R .since x (omega arith) in
+      rw (s .budget i, s .refill i) at (R .tick x h .spent i l (rw (s .refill i) d))
+
+  filled : (i : ℕ) → i < t .count → (x : ℕ) → x < N → refillAway (u x) i ≡ 1 → Full t (u (suc x)) i
+  filled i l x h d = R .tick x h .filled i l (R .since x (omega arith) .refill i ∙ d)
+
+  account : (i : ℕ) → i < t .count → Account (periodIn t i) (budgetIn t i) N (λ x. budgetAt (u x) i) (λ x. refillAway (u x) i) (ran c i)
   account i l = record {
     period = R .periods i l;
     start = R .start i l;
-    charge = λ x h. charged (v x) (c x) (R .tick x h .first) i;
-    nearer = λ x h d. omega (arith, R .tick x h .spent i l d, charged (v x) (c x) (R .tick x h .first) i);
-    refill = λ x h d. omega (arith, R .tick x h .filled i l d);
+    charge = charge i;
+    nearer = λ x h d. let o = spent i l x h d in omega (arith, o .1, at-most (lapsesAt (u (suc x)) i) (o .0), charge i x h);
+    refill = λ x h d. let o = filled i l x h d in (o .1, at-most (lapsesAt (u (suc x)) i) (o .0));
   }
 
   module _ (i : ℕ) (l : i < t .count) where
-    pub most-run : (b : ℕ) → Full t (v b) i → (n : ℕ) → n ≤ periodIn t i → b + n ≤ N → counted (ran c i) b n ≤ budgetIn t i
-    most-run b f n h g = omega (arith, most (account i l) b n (omega arith) g)
+    pub most-run : (b : ℕ) → Full t (u b) i → (n : ℕ) → n ≤ periodIn t i → b + n ≤ N → counted (ran c i) b n ≤ budgetIn t i
+    most-run b f n h g = omega (arith, most (account i l) b n (omega (arith, f .1)) g, at-most (lapsesAt (u b) i) (f .0))
 
     -- the ticks on which i is held off are ticks of servers above it
     pub held : (b n : ℕ) → n ≤ periodIn t i → b + n ≤ N → counted (missed v c i) b n ≤ mostHeld t i
     unfolding mostHeld
-    held b n h g = charged-to i N (periodIn t) (budgetIn t) (λ j x. budgetAt (v x) j) (λ j x. refillAway (v x) j) (ran c) (λ j m. account j (omega arith))
+    held b n h g = charged-to i N (periodIn t) (budgetIn t) (λ j x. budgetAt (u x) j) (λ j x. refillAway (u x) j) (ran c) (λ j m. account j (omega arith))
         (missed v c i) (λ x m. gives-way (v x) (c x) (R .tick x m .first) i) (periodIn t i) b n h g
 
-    pub least : (b : ℕ) → Full t (v b) i → b + periodIn t i ≤ N
-        → ((x : ℕ) → x < periodIn t i → 0 < budgetAt (v (b + x)) i → wantsAt (v (b + x)) i ≡ true)
+    -- where nothing is given up at the end of the tick before the period and of each of its ticks but the last, and each tick with budget is wanted
+    pub least : (b : ℕ) → Full t (u b) i → b + periodIn t i ≤ N
+        → ((x : ℕ) → b ≤ x → x < b + periodIn t i → lapsesAt (u x) i ≡ false)
+        → ((x : ℕ) → b ≤ x → x < b + periodIn t i → 0 < budgetAt (v x) i → wantsAt (v x) i ≡ true)
         → sure t i ≤ counted (ran c i) b (periodIn t i)
     unfolding sure
-    least b f g w = go (held b (periodIn t i) (omega arith) g) (busy (account i l) (missed v c i) b (periodIn t i) (omega arith) g
-        (λ x h d. let m = charged (v (b + x)) (c (b + x)) (R .tick (b + x) (omega arith) .first) i in
-        omega (arith, R .tick (b + x) (omega arith) .spent i l d))
-        (λ x h d. one (wantsAt (v (b + x)) i) (budgetAt (v (b + x)) i) (ran c i (b + x)) (w x h d) d))
+    least b f g k w = go (held b (periodIn t i) (omega arith) g) (busy (account i l) (missed v c i) b (periodIn t i) (omega (arith, f .1)) g
+        (λ x h d. omega (arith, rw (k (suc (b + x)) (omega arith) (omega arith)) at (spent i l (b + x) (omega arith) d .0), charge i (b + x) (omega arith)))
+        (λ x h d.
+        let e : 0 < budgetAt (v (b + x)) i = omega (arith, R .since (b + x) (omega arith) .budget i) in
+        one (wantsAt (v (b + x)) i) (budgetAt (v (b + x)) i) (ran c i (b + x)) (w (b + x) (omega arith) (omega arith) e) e))
       where
-        go : {x y z p : ℕ} → z ≤ y → (p ≤ x + z) ⊎ (budgetAt (v b) i ≤ x) → min (budgetIn t i) (p - y) ≤ x
+        full : budgetAt (u b) i ≡ budgetIn t i
+        full = rw (k b (omega arith) (omega (arith, R .periods i l))) at (f .0)
+
+        go : {x y z p : ℕ} → z ≤ y → (p ≤ x + z) ⊎ (budgetAt (u b) i ≤ x) → min (budgetIn t i) (p - y) ≤ x
         go h (inl d) = omega arith
-        go h (inr d) = omega arith
+        go h (inr d) = omega (arith, full)
 
     -- full at the next refill, and again after each period
-    refilled : (b : ℕ) → b + refillAway (v b) i ≤ N → Full t (v (b + refillAway (v b) i)) i
-    refilled b g = let (x, e, d) = last (account i l) b g in rw e (R .tick x (omega arith) .filled i l d)
+    refilled : (b : ℕ) → b + refillAway (u b) i ≤ N → Full t (u (b + refillAway (u b) i)) i
+    refilled b g = let (x, e, d) = last (account i l) b g in rw e (filled i l x (omega arith) d)
 
-    pub starts : Full t (v 0) i → (k : ℕ) → k * periodIn t i ≤ N → Full t (v (k * periodIn t i)) i
+    pub starts : Full t (u 0) i → (k : ℕ) → k * periodIn t i ≤ N → Full t (u (k * periodIn t i)) i
     starts f zero h = let e : 0 * periodIn t i ≡ 0 = omega arith in rw e f
     starts f (suc k) h =
         let b = k * periodIn t i in
-        let ih = starts f k (omega arith) in
-        let e : suc k * periodIn t i ≡ b + refillAway (v b) i = omega arith in
+        let ih = starts f k (omega arith) .1 in
+        let e : suc k * periodIn t i ≡ b + refillAway (u b) i = omega arith in
         rw e (refilled b (omega arith))

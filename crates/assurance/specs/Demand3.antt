@@ -1,8 +1,9 @@
--- Demand 3, over the scheduler's own tick, run of ticks and arrival call. What is quoted is document 01's or the demand's own words. Nothing here is proved;
+-- Demand 3, over the scheduler's own tick, run of ticks and arrival call. What is quoted is document 01's, document 02's where it is named, or the demand's own words. Nothing here is proved;
 -- proofs/Assured.antt proves it of every sound table, proofs/FromFile.antt of every setup file that is accepted.
 use mathlib.Core.Path.{_≡_}
 use mathlib.Core.Bool.{Bool, not}
-use mathlib.Core.List.{List, [], _∷_, _++_}
+use mathlib.Core.List.{List, [], _∷_, _++_, map}
+use mathlib.Core.Logic.{_≢_}
 use Prim.Native.Nat.{ℕ, zero, suc, _+_, _-_, _*_, _/_, _≤_, min}
 use lib.Dec.{ltb, eqb}
 use lib.ListN.{length, take, drop, getD}
@@ -10,7 +11,7 @@ use Rattle.refusal.specs.Small.{pick, both}
 use Rattle.table.specs.Table.{zeroServer}
 use Rattle.table.specs.declared.Table.{Table}
 use Rattle.scheduler.specs.State.{serverAt, entryAt}
-use Rattle.scheduler.specs.Choice.{wantsb, servesb}
+use Rattle.scheduler.specs.Choice.{somePending, wantsb, servesb}
 use Rattle.scheduler.specs.Arrive.{arriveOf}
 use Rattle.scheduler.specs.Tick.{tickOf}
 use Rattle.scheduler.specs.Run.{ticksIn, runOf}
@@ -22,7 +23,10 @@ use Rattle.scheduler.specs.declared.Answer.{Answer}
 
 -- THE TABLE
 
--- server i's period P and its budget C
+-- server i's kind, its period P and its budget C
+
+abbrev pub kindIn : Table → ℕ → ℕ
+kindIn t i = getD (t .servers) i zeroServer .kind
 
 abbrev pub periodIn : Table → ℕ → ℕ
 periodIn t i = getD (t .servers) i zeroServer .period .0
@@ -93,13 +97,28 @@ ticksAsked (arrival i j ∷ cs) = ticksAsked cs
 unfoldable pub periodTicks : Table → List Call → ℕ → ℕ → List Seen
 periodTicks t cs i k = take (periodIn t i) (drop (k * periodIn t i) (ticksOf (freshOf t .state) cs))
 
+-- the state at the end of a tick, "after all events are handled": arrival calls between it and the next tick come behind it
+abbrev pub tickEnd : Seen → State
+tickEnd x = tickOf (x .state) .state
+
+-- "at the end of the tick before the period (in the fresh state, for a period that begins at tick 0)": of these ticks from the state s on, before tick b
+abbrev pub endBefore : State → List Seen → ℕ → State
+endBefore s xs zero = s
+endBefore s xs (suc b) = getD (map tickEnd xs) b s
+
+-- "and at the end of each of its ticks but the last" (document 02, #101)
+unfoldable pub periodEnds : Table → List Call → ℕ → ℕ → List State
+periodEnds t cs i k =
+    let s = freshOf t .state in
+    endBefore s (ticksOf s cs) (k * periodIn t i) ∷ map tickEnd (take (periodIn t i - 1) (periodTicks t cs i k))
+
 -- COUNTING
 
 abbrev pub num : Bool → ℕ
 num b = pick b 1 0
 
--- how many of these ticks pass a test
-unfoldable pub tally : (Seen → Bool) → List Seen → ℕ
+-- how many of these ticks, or of these states, pass a test
+unfoldable pub tally : {A : Type 0} → (A → Bool) → List A → ℕ
 tally p [] = 0
 tally p (x ∷ xs) = num (p x) + tally p xs
 
@@ -121,13 +140,25 @@ heldOff i x = both (both (wantsAt (x .state) i) (fundedAt (x .state) i)) (not (r
 abbrev pub declines : ℕ → Seen → Bool
 declines i x = both (fundedAt (x .state) i) (not (wantsAt (x .state) i))
 
+-- no work of server i is pending
+abbrev pub workless : ℕ → State → Bool
+workless i s = not (somePending (entryAt s i .loads))
+
 -- THE DEMAND, of server i in its period k, over any calls from a fresh setup
 pub record Demand3 (t : Table) (calls : List Call) (i k : ℕ) : Type 0 where
   -- "in each of its own periods a server runs, ticks idled away included, at most its budget"
   pub most : tally (runs i) (periodTicks t calls i k) ≤ budgetIn t i
   -- "In each, the ticks on which it has budget, wants the processor and doesn't run are at most W"
   pub held : tally (heldOff i) (periodTicks t calls i k) ≤ mostHeld t i
-  -- "If in a whole period it wants every tick on which it has budget, it runs at least the smaller of its budget and its period less W."
-  pub least : length (periodTicks t calls i k) ≡ periodIn t i
+  -- "If in a whole period it wants every tick on which it has budget, it runs at least the smaller of its budget and its period less W.": a server that is not
+  -- polling
+  pub least : kindIn t i ≢ 3
+      → length (periodTicks t calls i k) ≡ periodIn t i
       → tally (declines i) (periodTicks t calls i k) ≡ 0
+      → sure t i ≤ tally (runs i) (periodTicks t calls i k)
+  -- "it holds for kind 3 if work is pending at the end of the tick before the period (in the fresh state, for a period that begins at tick 0) and at the end
+  -- of each of its ticks but the last" (document 02, #101)
+  pub least-polling : kindIn t i ≡ 3
+      → length (periodTicks t calls i k) ≡ periodIn t i
+      → tally (workless i) (periodEnds t calls i k) ≡ 0
       → sure t i ≤ tally (runs i) (periodTicks t calls i k)

@@ -9,6 +9,7 @@ use Rattle.setup.specs.Read.{taskChecks, taskOf, headChecks, serverChecks, serv
 use Rattle.message.specs.Message.{readOf}
 use Rattle.scheduler.specs.Sound.{entryb, stateb}
 use Rattle.scheduler.specs.Choice.{wantsb, chosenOf, choiceOf}
+use Rattle.scheduler.specs.Polling.{lapsed}
 use Rattle.scheduler.specs.Arrive.{loadAfter, arriveOf}
 use Rattle.scheduler.specs.Tick.{charge, turnOf, roomOf, served4, stateAfter, handledOf, againb, tickOf}
 use Rattle.scheduler.specs.Fresh.{freshQueue, freshEntry, freshState, freshOf}
@@ -20,6 +21,6 @@ use Rattle.desk.specs.Worked.{workedInput, workedOutput}
 pub worked-trace : traceOf workedInput ≡ workedOutput
 unfolding insertOf clockOf takeOf holdsb soundb sameb cellsOf queueOf cellsFor tableb
     taskChecks taskOf headChecks serverChecks serverOf startChecks setupChecks tableOf setupOf readOf
-    entryb stateb wantsb chosenOf choiceOf loadAfter arriveOf charge turnOf roomOf served4 stateAfter handledOf againb tickOf
+    entryb stateb wantsb chosenOf choiceOf lapsed loadAfter arriveOf charge turnOf roomOf served4 stateAfter handledOf againb tickOf
     freshQueue freshEntry freshState freshOf decimal openOf askedOf arrivedOf messageOf traceOf
 worked-trace = refl

@@ -1,5 +1,5 @@
 // Hands damaged setups and messages to the readers, and tables and messages to the writers, and writes each with its answer: the number of the refusal and its
-// place, `0 at 0` where nothing is refused. The comments quote document 01.
+// place, `0 at 0` where nothing is refused. The comments quote document 01 where they name no other.
 use field::Written;
 use libc::STDOUT_FILENO;
 use refusal::Refusal;
@@ -207,11 +207,17 @@ fn counts() {
     with_server(4, 2, 0, 4, 2);
 }
 
-// "kind not 1 or 2", "P out of range", "C is 0 or above P"
+// "kind not 1 or 2", and "Setup code 6 now allows 3." (document 02, #101); "P out of range", "C is 0 or above P"
 fn server_values() {
     with_server(4, 0, 1, 4, 2);
     with_server(4, 1, 1, 4, 2);
+    with_server(4, 3, 1, 4, 2);
+    with_server(4, 3, 9, 4, 2);
+    with_server(4, 4, 1, 4, 2);
     with_server(4, 4, 9, 4, 2);
+    with_server(4, 255, 1, 4, 2);
+    with_server(27, 3, 1, 5, 2);
+    with_server(27, 4, 1, 5, 2);
     with_server(4, 2, 1, 0, 0);
     with_server(4, 2, 1, 1, 1);
     with_server(4, 2, 1, 4, 0);
@@ -393,6 +399,14 @@ fn tables() {
     write_setup(b"worked", t, &mut [255; 51], &right);
 }
 
+// A setup with a polling server (kind 3) is written as it was read.
+fn polling_table() {
+    let mut s = worked();
+    server(&mut s, 4, 3, 1, 4, 2);
+    let r = setup::read(&s);
+    write_setup(b"polling", r.table, &mut [255; 50], &s);
+}
+
 fn longest_table() {
     let mut s = [255; 917];
     longest(&mut s, 916);
@@ -421,6 +435,14 @@ fn unsound_tables() {
     write_unsound(b"9 servers", t);
 }
 
+// No server has kind 4.
+fn unsound_kind() {
+    let r = setup::read(&worked());
+    let mut t = r.table;
+    t.servers[0].kind = 4;
+    write_unsound(b"server of kind 4", t);
+}
+
 // "The message writer takes any two bytes; a kind not 1 or 2 is 17."
 fn written_messages() {
     write_message(3, &mut [255; 5], &[255; 5]);
@@ -443,7 +465,9 @@ fn main() {
     too_long();
     messages();
     tables();
+    polling_table();
     longest_table();
     unsound_tables();
+    unsound_kind();
     written_messages();
 }

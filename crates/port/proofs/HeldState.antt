@@ -207,10 +207,10 @@ task-held : (ws : List ℕ) → taskSize ≤ length ws → TaskRange (taskIn ws)
 unfolding taskIn
 task-held ws l h = let r = release-held (word 0 ws) (word 2 ws) (word 3 ws) h in rw (four-words 0 ws l, r .release, r .period, r .offset)
 
-kind-held : (k : ℕ) → kindIn k ≤ 2 → kindIn k ≡ k
+kind-held : (k : ℕ) → kindIn k ≤ 3 → kindIn k ≡ k
 kind-held k h = go (ltb 255 k) h
   where
-    go : (b : Bool) → pick b 255 k ≤ 2 → pick b 255 k ≡ k
+    go : (b : Bool) → pick b 255 k ≤ 3 → pick b 255 k ≡ k
     go true p = absurd (omega arith)
     go false p = refl
 

@@ -48,7 +48,7 @@ abbrev pub TaskRange : Task → Type 0
 TaskRange t = releaseb longest (t .release) ≡ true
 
 pub record ServerRange (s : Server) : Type 0 where
-  pub kind : s .kind ≤ 2
+  pub kind : s .kind ≤ 3
   pub count : s .count ≤ entries
   pub tasks : All TaskRange (s .tasks)
 
@@ -72,7 +72,7 @@ server-range s h =
     let b = both-right (rangeb 1 longest (s .period .0)) _ a in
     let c = both-right (rangeb 1 (s .period .0) (s .budget .0)) _ b in
     record {
-      kind = ⊎-elim (λ e. omega arith) (λ e. omega arith) (kind-known (s .kind) .0 (both-left _ _ h));
+      kind = ⊎-elim (λ e. omega arith) (⊎-elim (λ e. omega arith) (λ e. omega arith)) (kind-known (s .kind) .0 (both-left _ _ h));
       count = leb-true (s .count) entries (both-left _ _ c);
       tasks = used-all TaskRange (taskb longest mostWork) zeroTaskb task-range zero-task-range (s .tasks) (s .count) (both-right (leb (s .count) entries) _ c);
     }
@@ -146,9 +146,10 @@ unfolding stateb
 state-range s f h =
     let r = both-right (tableb longest mostWork (s .table)) _ h in
     let ss = s .table .servers in
+    let q = both-right (entriesb ss (s .entries)) _ r in
     record {
       table = table-range (s .table) (both-left _ _ h);
-      refills = record { reach = serverReaches ss; few = omega (arith, server-reaches ss, f .table .count); holds = both-right (entriesb ss (s .entries)) _ r };
+      refills = record { reach = serverReaches ss; few = omega (arith, server-reaches ss, f .table .count); holds = both-left _ _ q };
       entries = entries-range ss (s .entries) (f .table .servers) (omega (arith, f .table .count, f .count)) (both-left _ _ r);
     }
 

@@ -21,7 +21,7 @@ serverCount = 4
 abbrev pub recordCut : ℕ
 recordCut = 5
 
--- kind not 1 or 2
+-- kind not 1, 2 or 3 (document 01: "kind not 1 or 2"; document 02, #101: "Setup code 6 now allows 3.")
 abbrev pub serverKind : ℕ
 serverKind = 6
 

@@ -1,14 +1,17 @@
 -- The first place that passes a test, walked by the index: the first task with pending work, and the highest server that is ready. Assumes nothing.
 use mathlib.Core.Path.{_≡_, refl, sym, _∙_}
-use mathlib.Core.Bool.{Bool, true, false}
+use mathlib.Core.Bool.{Bool, true, false, not}
 use mathlib.Core.List.{List, [], _∷_}
+use mathlib.Core.Logic.{_↔_}
 use Prim.Native.Nat.{ℕ, zero, suc, _+_, _≤_, _<_, compare·suc-suc}
 use native.Mathlib.Omega.{arith}
-use lib.Dec.{ltb}
+use lib.Dec.{leb, ltb}
 use lib.ListN.{length, getD, drop, drop-of-length-le}
-use borrow.Author.Tests.{lt-ltb}
+use borrow.Author.Tests.{lt-ltb, ltb-true, ltb-false, le-leb, lt-leb}
 use Rattle.refusal.specs.Small.{pick}
+use Rattle.refusal.proofs.Small.{neither-left, neither-right}
 use Rattle.table.specs.declared.Server.{Server}
+use Rattle.scheduler.specs.State.{zeroLoad}
 use Rattle.scheduler.specs.Choice.{pendingb, firstPending, somePending, readyb, chosenFrom}
 use Rattle.scheduler.specs.declared.Load.{Load}
 use Rattle.scheduler.specs.declared.Entry.{Entry}
@@ -64,6 +67,26 @@ some-first (l ∷ ls) = go (pendingb l) (some-first ls)
     go : (b : Bool) → somePending ls ≡ ltb (firstPending ls) (length ls) → pick b true (somePending ls) ≡ ltb (pick b 0 (suc (firstPending ls))) (suc (length ls))
     go true r = sym (lt-ltb 0 (suc (length ls)) (omega arith))
     go false r = rw compare·suc-suc r
+
+pub none-first : (ls : List Load) → not (somePending ls) ≡ leb (length ls) (firstPending ls)
+none-first ls = go (ltb (firstPending ls) (length ls)) refl
+  where
+    go : (b : Bool) → ltb (firstPending ls) (length ls) ≡ b → not (somePending ls) ≡ leb (length ls) (firstPending ls)
+    go true p = rw (some-first ls, p) (sym (lt-leb (length ls) (firstPending ls) (ltb-true (firstPending ls) (length ls) p)))
+    go false p = rw (some-first ls, p) (sym (le-leb (length ls) (firstPending ls) (ltb-false (firstPending ls) (length ls) p)))
+
+-- and in none exactly when each has none
+pub some-none : (ls : List Load) → somePending ls ≡ false ↔ ((j : ℕ) → pendingb (getD ls j zeroLoad) ≡ false)
+some-none ls = (forth ls, back ls)
+  where
+    forth : (ls : List Load) → somePending ls ≡ false → (j : ℕ) → pendingb (getD ls j zeroLoad) ≡ false
+    forth [] h j = refl
+    forth (l ∷ ls) h zero = neither-left (pendingb l) (somePending ls) h
+    forth (l ∷ ls) h (suc j) = forth ls (neither-right (pendingb l) (somePending ls) h) j
+
+    back : (ls : List Load) → ((j : ℕ) → pendingb (getD ls j zeroLoad) ≡ false) → somePending ls ≡ false
+    back [] h = refl
+    back (l ∷ ls) h = rw (h 0) (back ls (λ j. h (suc j)))
 
 -- THE HIGHEST SERVER THAT IS READY
 

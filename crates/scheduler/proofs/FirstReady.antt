@@ -24,7 +24,7 @@ use Rattle.scheduler.specs.declared.Entry.{Entry}
 use Rattle.scheduler.specs.declared.State.{State}
 use Rattle.scheduler.specs.declared.Choice.the-variants.{Idle, Burning, Running}
 use Rattle.scheduler.proofs.Stated.{Stated, stated, entry-stated}
-use Rattle.scheduler.proofs.Choosing.{FirstOf, first-pending, some-first, first-ready}
+use Rattle.scheduler.proofs.Choosing.{FirstOf, first-pending, some-first, some-none, first-ready}
 use Rattle.scheduler.proofs.Turns.{in-use}
 use Rattle.scheduler.proofs.TickSound.{table-used, tick-accepts}
 
@@ -33,9 +33,9 @@ wants-idling : (kind : ℕ) (e : Entry) → somePending (e .loads) ≡ false →
 unfolding wantsb
 wants-idling kind e n w = go (eqb kind 1) refl (rw n at w)
   where
-    go : (b : Bool) → eqb kind 1 ≡ b → pick b true (both (eqb kind 2) false) ≡ true → kind ≡ 1
+    go : (b : Bool) → eqb kind 1 ≡ b → pick b true (both (pick (eqb kind 2) true (eqb kind 3)) false) ≡ true → kind ≡ 1
     go true p r = eqb-true kind 1 p
-    go false p r = contrary r (both-false (eqb kind 2))
+    go false p r = contrary r (both-false (pick (eqb kind 2) true (eqb kind 3)))
 
 -- one of no kind never does
 rests : (kind : ℕ) (e : Entry) → kind ≡ 0 → wantsb kind e ≡ false
@@ -93,13 +93,6 @@ module _ (s : State) (z : SizedState s) (h : stateb s ≡ true) where
           go true r = contrary r (chosen .above i (omega (arith, ready-used i r, parts .servers .count)))
           go false r = refl
 
-      none-pending : length ls ≤ j → (i : ℕ) → pendingb (getD ls i zeroLoad) ≡ false
-      none-pending l i = go (ltb i (length ls)) refl
-        where
-          go : (b : Bool) → ltb i (length ls) ≡ b → pendingb (getD ls i zeroLoad) ≡ false
-          go true m = first-pending ls zeroLoad .above i (omega (arith, ltb-true i (length ls) m))
-          go false m = rw (List·getD-eq-default ls zeroLoad (ltb-false i (length ls) m))
-
       go : (a b : Bool) → ltb k entries ≡ a → ltb j entries ≡ b → Chosen s (pick a (pick b (Running k j) (Burning k)) Idle)
       go false b p q = none-ready (ltb-false k entries p)
       go true true p q =
@@ -112,7 +105,7 @@ module _ (s : State) (z : SizedState s) (h : stateb s ≡ true) where
           let t = highest l in
           let m : length ls ≤ j = omega (arith, z .loads k l, ltb-false j entries q) in
           let n : somePending ls ≡ false = rw (some-first ls) (le-ltb j (length ls) m) in
-          (t, record { idling = wants-idling (serverAt s k .kind) (entryAt s k) n (both-left _ _ (t .ready)); none = none-pending m })
+          (t, record { idling = wants-idling (serverAt s k .kind) (entryAt s k) n (both-left _ _ (t .ready)); none = some-none ls .0 n })
 
   -- The number of a tick's choice: 0 (idle) exactly when no server wants and has budget; 1 (burning) exactly when the highest that does is an idling server
   -- without work; 2 (running) exactly when it has work pending, in the first such task of it

@@ -33,14 +33,16 @@ use Rattle.table.specs.declared.Server.{Server}
 use Rattle.table.specs.declared.Table.{Table}
 use Rattle.table.proofs.Soundness.{range-within, zero-task}
 use Rattle.scheduler.specs.State.{mostPending, zeroLoad, zeroEntry, serverAt, taskAt}
-use Rattle.scheduler.specs.Sound.{releaseReach, taskReaches, serverReaches, loadb, zeroLoadb, entryb, entriesb, stateb}
+use Rattle.scheduler.specs.Polling.{lapsed}
+use Rattle.scheduler.specs.Sound.{releaseReach, taskReaches, serverReaches, loadb, zeroLoadb, entryb, entriesb, allSpentb, stateb}
 use Rattle.scheduler.specs.Tick.{periodAt, fullAt}
-use Rattle.scheduler.specs.Fresh.{firstAway, taskAway, serverAway, firstWork, freshLoad, freshLoads, putIn, freshQueue, freshEntry, freshEntries, freshState, madeWith, freshOf}
-use Rattle.scheduler.specs.Meaning.{loadAt, budgetAt, refillAway, arrivalAway}
+use Rattle.scheduler.specs.Fresh.{firstAway, taskAway, serverAway, firstWork, freshLoad, freshLoads, putIn, freshQueue, filledEntry, freshEntry, freshEntries, freshState, madeWith, freshOf}
+use Rattle.scheduler.specs.Meaning.{loadAt, budgetAt, lapsesAt, refillAway, arrivalAway}
 use Rattle.scheduler.specs.declared.Entry.{Entry}
 use Rattle.scheduler.proofs.Refusals.{fresh-accepted}
 use Rattle.scheduler.proofs.Unchanged.{fresh-done}
 use Rattle.scheduler.proofs.Stated.{entry-stated, ServerStated, zero-stated, server-reach, task-reach}
+use Rattle.scheduler.proofs.Lapsing.{lapsed-keeps, lapsed-budget, lapsed-sound, lapsed-spent}
 use Rattle.scheduler.proofs.HeldEach.{HeldEach, held-each, few-ids}
 use Rattle.scheduler.proofs.Again.{Delayed}
 use Rattle.scheduler.proofs.TickSound.{task-delayed, Every, state-parts, table-every, periodIn, server-delayed}
@@ -255,17 +257,19 @@ module _ (s : Server) (k : ServerStated s) where
   entry-sound : entryb s (freshEntry s) ≡ true
   unfolding freshEntry
   entry-sound =
-      entry-stated s (freshEntry s) .1 record {
+      lapsed-sound s (filledEntry s) (entry-stated s (filledEntry s) .1 record {
         budget = omega arith;
         loads = loads-sound (s .tasks) (s .count) (k .tasks);
         arrivals =
             held-each (taskReaches (s .tasks)) (freshQueue taskAway (s .tasks)) .1
             (fresh-held taskAway zeroTask (s .tasks) (taskReaches (s .tasks)) refl arrival-delayed arrival-near);
-      }
+      })
 
   entry-away : (j : ℕ) → away j (freshEntry s .arrivals) ≡ taskAway (taskAt s j)
   unfolding freshEntry
-  entry-away = fresh-away taskAway zeroTask (s .tasks) (taskReaches (s .tasks)) refl arrival-delayed arrival-near
+  entry-away j =
+      lapsed-keeps s (filledEntry s) (λ (e : Entry). away j (e .arrivals)) refl
+      ∙ fresh-away taskAway zeroTask (s .tasks) (taskReaches (s .tasks)) refl arrival-delayed arrival-near j
 
 -- THE STATE
 
@@ -273,9 +277,14 @@ entries-sound : (ss : List Server) → Every ss → entriesb ss (freshEntries ss
 entries-sound [] k = refl
 entries-sound (s ∷ ss) k = rw (entry-sound s (k .0)) (entries-sound ss (k .1))
 
+fresh-spent : (ss : List Server) → allSpentb ss (freshEntries ss) ≡ true
+unfolding freshEntry
+fresh-spent [] = refl
+fresh-spent (s ∷ ss) = rw (lapsed-spent s (filledEntry s)) (fresh-spent ss)
+
 -- the entry at a place is the fresh one of its server: past the end both are zero
 entries-fresh : (ss : List Server) (i : ℕ) → getD (freshEntries ss) i zeroEntry ≡ freshEntry (getD ss i zeroServer)
-unfolding freshEntry freshQueue
+unfolding freshEntry freshQueue lapsed
 entries-fresh [] i = refl
 entries-fresh (s ∷ ss) zero = refl
 entries-fresh (s ∷ ss) (suc i) = entries-fresh ss i
@@ -304,16 +313,17 @@ module _ (t : Table) (h : tableb longest mostWork t ≡ true) where
         refills =
             held-each (serverReaches (t .servers)) (freshQueue serverAway (t .servers)) .1
             (fresh-held serverAway zeroServer (t .servers) (serverReaches (t .servers)) refl (server-delayed t h) refill-near);
+        spent = fresh-spent (t .servers);
       }
 
   -- and it is what the call makes
   pub fresh-made : freshOf t ≡ madeWith none (freshState t)
   fresh-made = fresh-done t (fresh-accepted t .1 h)
 
-  -- "each budget is C"
-  pub fresh-budget : (i : ℕ) → budgetAt (freshState t) i ≡ fullAt (freshState t) i
+  -- "each budget is C"; but "at setup .. a polling server with no pending work has its budget set to 0" (document 02, #101)
+  pub fresh-budget : (i : ℕ) → budgetAt (freshState t) i ≡ pick (lapsesAt (freshState t) i) 0 (fullAt (freshState t) i)
   unfolding freshState freshEntry
-  fresh-budget i = ap (λ (e : Entry). e .budget .0) (entries-fresh (t .servers) i)
+  fresh-budget i = let s = getD (t .servers) i zeroServer in lapsed-budget s (filledEntry s) _ (entries-fresh (t .servers) i)
 
   -- "each replenishment is P away"
   pub fresh-refill : (i : ℕ) → refillAway (freshState t) i ≡ periodAt (freshState t) i
@@ -324,7 +334,10 @@ module _ (t : Table) (h : tableb longest mostWork t ≡ true) where
   pub fresh-load : (i j : ℕ) → loadAt (freshState t) i j ≡ freshLoad (taskAt (serverAt (freshState t) i) j)
   unfolding freshState freshEntry
   fresh-load i j =
-      ap (λ (e : Entry). getD (e .loads) j zeroLoad) (entries-fresh (t .servers) i) ∙ loads-fresh (getD (t .servers) i zeroServer .tasks) j
+      let s = getD (t .servers) i zeroServer in
+      ap (λ (e : Entry). getD (e .loads) j zeroLoad) (entries-fresh (t .servers) i)
+      ∙ lapsed-keeps s (filledEntry s) (λ (e : Entry). getD (e .loads) j zeroLoad) refl
+      ∙ loads-fresh (s .tasks) j
 
   pub fresh-arrival : (i j : ℕ) → arrivalAway (freshState t) i j ≡ taskAway (taskAt (serverAt (freshState t) i) j)
   unfolding freshState

@@ -12,14 +12,15 @@ use Rattle.table.specs.declared.Table.{Table}
 use Rattle.scheduler.specs.State.{zeroEntry, withBudget, serverAt, entryAt, taskAt}
 use Rattle.scheduler.specs.Choice.{firstPending, chosenOf}
 use Rattle.scheduler.specs.Arrive.{loadAfter, withArrival, withLoads, arriveOf}
-use Rattle.scheduler.specs.Tick.{lessWork, charge, dueIn, refilled, fullAt, arrivedLoads, served4, eachEntry, chargedEntries, stateAfter}
-use Rattle.scheduler.specs.Fresh.{freshLoads, freshEntry, freshEntries, freshState}
+use Rattle.scheduler.specs.Tick.{lessWork, charge, dueIn, refilled, fullAt, arrivedLoads, served4, eachEntry, chargedEntries, handledEntries, stateAfter}
+use Rattle.scheduler.specs.Fresh.{freshLoads, filledEntry, freshEntry, freshEntries, freshState}
 use Rattle.scheduler.specs.Meaning.{SizedState}
 use Rattle.scheduler.specs.declared.Load.{Load}
 use Rattle.scheduler.specs.declared.Entry.{Entry}
 use Rattle.scheduler.specs.declared.State.{State}
 use Rattle.scheduler.proofs.Altered.{alter-keeps}
 use Rattle.scheduler.proofs.Lists.{length-alter}
+use Rattle.scheduler.proofs.Lapsing.{lapsed-keeps, lapsed-at, lapsed-length}
 use Rattle.scheduler.proofs.Unchanged.{arrive-either}
 
 -- how many loads the entry at a place has
@@ -66,12 +67,14 @@ module _ (s : State) where
 
   pub tick-length : length (stateAfter s .entries) ≡ length (s .entries)
   unfolding stateAfter
-  tick-length = served-length (s .table .servers) _ ∙ before-length
+  tick-length = lapsed-length (s .table .servers) _ ∙ served-length (s .table .servers) _ ∙ before-length
 
   pub tick-loads : (i : ℕ) → length (entryAt (stateAfter s) i .loads) ≡ length (entryAt s i .loads)
   unfolding stateAfter
   tick-loads i =
-      served-count (s .table .servers) _ i
+      ap (λ (e : Entry). length (e .loads)) (lapsed-at (s .table .servers) (handledEntries s) i)
+      ∙ lapsed-keeps (serverAt s i) (getD (handledEntries s) i zeroEntry) (λ (e : Entry). length (e .loads)) refl
+      ∙ served-count (s .table .servers) _ i
       ∙ refilled-count (fullAt s) (dueIn (s .refills)) (chargedEntries s) i
       ∙ alter-count charge charge-count (s .entries) (chosenOf s) i
 
@@ -109,7 +112,7 @@ entries-length (s ∷ ss) = ap suc (entries-length ss)
 entries-count : (ss : List Server) (i : ℕ) → loadCount (freshEntries ss) i ≡ length (getD ss i zeroServer .tasks)
 unfolding freshEntry
 entries-count [] i = refl
-entries-count (s ∷ ss) zero = loads-length (s .tasks)
+entries-count (s ∷ ss) zero = lapsed-keeps s (filledEntry s) (λ (e : Entry). length (e .loads)) refl ∙ loads-length (s .tasks)
 entries-count (s ∷ ss) (suc i) = entries-count ss i
 
 pub fresh-sized : (t : Table) → Sized t → SizedState (freshState t)

@@ -1,27 +1,31 @@
--- Steps 3 and 4 of a tick for each server in use, and what an arrival leaves alone. The arrays have their lengths. Assumes nothing.
+-- Steps 3 and 4 of a tick for each server in use and what it gives up at the end, and what an arrival leaves alone. The arrays have their lengths. Assumes nothing.
 use mathlib.Core.Path.{_≡_, refl, ap, _∙_}
 use mathlib.Core.Bool.{Bool, true, false}
 use mathlib.Core.List.{List, [], _∷_}
+use mathlib.Core.Logic.{_↔_, _≢_}
 use Prim.Native.Nat.{ℕ, zero, suc, _-_, _<_}
 use native.Mathlib.Omega.{arith}
 use lib.Dec.{eqb}
 use lib.ListN.{length, getD}
-use borrow.Author.Tests.{eq-eqb, ne-eqb, eqb-true}
+use borrow.Author.Tests.{eq-eqb, ne-eqb, eqb-true, not-true}
 use Rattle.refusal.specs.Small.{pick, alter}
+use Rattle.refusal.proofs.Small.{both-left, both-right, both-false}
 use Rattle.queue.proofs.DueTimes.{there}
 use Rattle.table.specs.Limits.{entries}
 use Rattle.table.specs.declared.Server.{Server}
-use Rattle.scheduler.specs.State.{zeroEntry, withBudget}
+use Rattle.scheduler.specs.State.{zeroEntry, withBudget, serverAt, entryAt, taskAt}
 use Rattle.scheduler.specs.Sound.{serverReaches, stateb}
-use Rattle.scheduler.specs.Choice.{chosenOf, choiceOf, servesb}
-use Rattle.scheduler.specs.Arrive.{arriveOf}
-use Rattle.scheduler.specs.Tick.{charge, dueIn, refilled, periodAt, fullAt, served4, eachEntry, chargedEntries, stateAfter}
-use Rattle.scheduler.specs.Meaning.{SizedState, budgetAt, refillAway, SoundState, Spent, Filled}
+use Rattle.scheduler.specs.Choice.{somePending, wantsb, chosenOf, choiceOf, servesb}
+use Rattle.scheduler.specs.Arrive.{withArrival, withLoads, arriveOf}
+use Rattle.scheduler.specs.Tick.{charge, dueIn, refilled, periodAt, fullAt, served4, eachEntry, chargedEntries, handledEntries, stateAfter}
+use Rattle.scheduler.specs.Meaning.{SizedState, pendingAt, budgetAt, lapsesAt, refillAway, SoundState, Spent, Filled}
 use Rattle.scheduler.specs.declared.Entry.{Entry}
 use Rattle.scheduler.specs.declared.State.{State}
 use Rattle.scheduler.proofs.Words.{state-sound}
 use Rattle.scheduler.proofs.Lists.{length-alter}
 use Rattle.scheduler.proofs.Altered.{read-altered, alter-keeps}
+use Rattle.scheduler.proofs.Lapsing.{lapsed-budget, lapsed-at, pending-kept}
+use Rattle.scheduler.proofs.Choosing.{some-none}
 use Rattle.scheduler.proofs.Unchanged.{arrive-either}
 use Rattle.scheduler.proofs.FirstReady.{serves-chosen}
 use Rattle.scheduler.proofs.Again.{inb, held-due, held-moved}
@@ -76,14 +80,19 @@ module _ (s : State) (z : SizedState s) (h : stateb s ≡ true) (i : ℕ) (u : i
   is-due = held-due (serverReaches (s .table .servers)) (s .refills) (refills-each s h) i ∙ rw refill-there
 
   -- "The server's budget and the chosen task's work fall by 1." "Due replenishments set the budget to C": "emptied first and then full"
-  pub tick-budget : budgetAt (stateAfter s) i ≡ pick (eqb (refillAway s i) 1) (fullAt s i) (budgetAt s i - pick (servesb (choiceOf s) i) 1 0)
-  unfolding stateAfter
-  tick-budget =
+  handled-budget : getD (handledEntries s) i zeroEntry .budget .0 ≡ pick (eqb (refillAway s i) 1) (fullAt s i) (budgetAt s i - pick (servesb (choiceOf s) i) 1 0)
+  handled-budget =
       let l : i < length (s .entries) = omega (arith, inside, z .servers) in
       let m : i < length (chargedEntries s) = rw (length-alter charge (s .entries) (chosenOf s)) l in
       each-budget (s .table .servers) _ i
       ∙ refilled-budget (fullAt s) (dueIn (s .refills)) (chargedEntries s) i m
       ∙ rw (is-due, charged-budget (s .entries) (chosenOf s) i l, serves-chosen s i inside)
+
+  -- and "at the end of every tick after all events are handled, a polling server with no pending work has its budget set to 0" (document 02, #101)
+  pub tick-budget : budgetAt (stateAfter s) i
+      ≡ pick (lapsesAt (stateAfter s) i) 0 (pick (eqb (refillAway s i) 1) (fullAt s i) (budgetAt s i - pick (servesb (choiceOf s) i) 1 0))
+  unfolding stateAfter
+  tick-budget = rw (← handled-budget) (lapsed-budget (serverAt s i) (getD (handledEntries s) i zeroEntry) _ (lapsed-at (s .table .servers) (handledEntries s) i))
 
   -- "are put in again P away"; "every distance falls by 1"
   pub tick-due : refillAway (stateAfter s) i ≡ pick (eqb (refillAway s i) 1) (periodAt s i) (refillAway s i - 1)
@@ -91,17 +100,55 @@ module _ (s : State) (z : SizedState s) (h : stateb s ≡ true) (i : ℕ) (u : i
   tick-due =
       held-moved (periodAt s) (serverReaches (s .table .servers)) (s .refills) (refills-each s h) (server-delayed (s .table) (state-parts s .0 h .table)) .moved i refill-there
 
-  -- so where the replenishment is further than the next tick, the server spends what it is served
+  -- so where the replenishment is further than the next tick, the server spends what it is served, or gives all up
   pub tick-spent : 1 < refillAway s i → Spent s (stateAfter s) i
   tick-spent m =
       let n : eqb (refillAway s i) 1 ≡ false = ne-eqb (refillAway s i) 1 (λ e. omega arith) in
       record { budget = rw n at tick-budget; refill = rw n at tick-due }
 
-  -- and where it is the next tick, the budget is full behind it
+  -- and where it is the next tick, the budget is full behind it, or given up
   pub tick-filled : refillAway s i ≡ 1 → Filled s (stateAfter s) i
   tick-filled e =
       let n : eqb (refillAway s i) 1 ≡ true = eq-eqb (refillAway s i) 1 e in
       record { budget = rw n at tick-budget; refill = rw n at tick-due }
+
+  -- "until its next refill": a budget that is 0 stays so up to there
+  pub tick-empty : 1 < refillAway s i → budgetAt s i ≡ 0 → budgetAt (stateAfter s) i ≡ 0
+  tick-empty m e = tick-spent m .budget ∙ go (lapsesAt (stateAfter s) i)
+    where
+      go : (b : Bool) → pick b 0 (budgetAt s i - pick (servesb (choiceOf s) i) 1 0) ≡ 0
+      go true = refl
+      go false = omega arith
+
+-- POLLING SERVERS
+
+-- "Kind 3 wants a tick as kind 2 does."
+pub wants-alike : (e : Entry) → wantsb 3 e ≡ wantsb 2 e
+unfolding wantsb
+wants-alike e = refl
+
+-- where work is pending
+pub polling-wants : (kind : ℕ) (e : Entry) → kind ≡ 3 → wantsb kind e ≡ somePending (e .loads)
+unfolding wantsb
+polling-wants kind e k = rw k
+
+-- "a polling server with no pending work"
+pub lapses-words : (s : State) (i : ℕ) → lapsesAt s i ≡ true ↔ (serverAt s i .kind ≡ 3) × ((j : ℕ) → pendingAt s i j ≡ false)
+lapses-words s i = (
+  λ h. (
+    eqb-true (serverAt s i .kind) 3 (both-left _ _ h),
+    some-none (entryAt s i .loads) .0 (not-true (somePending (entryAt s i .loads)) (both-right (eqb (serverAt s i .kind) 3) _ h)),
+  ),
+  λ w. rw (eq-eqb (serverAt s i .kind) 3 (w .0), some-none (entryAt s i .loads) .1 (w .1)),
+)
+
+-- a server gives nothing up where it is not polling, and where work is pending
+
+pub not-polling : (s : State) (i : ℕ) → serverAt s i .kind ≢ 3 → lapsesAt s i ≡ false
+not-polling s i n = rw (ne-eqb (serverAt s i .kind) 3 n)
+
+pub working : (s : State) (i : ℕ) → somePending (entryAt s i .loads) ≡ true → lapsesAt s i ≡ false
+working s i w = rw (w, both-false (eqb (serverAt s i .kind) 3))
 
 -- AN ARRIVAL changes neither a budget nor the replenishments, nor the table
 pub arrive-budget : (s : State) (i j k : ℕ) → budgetAt (arriveOf s i j .state) k ≡ budgetAt s k
@@ -112,6 +159,21 @@ arrive-refills s i j = arrive-either s i j (λ (x : State). x .refills ≡ s .re
 
 pub arrive-table : (s : State) (i j : ℕ) → arriveOf s i j .state .table ≡ s .table
 arrive-table s i j = arrive-either s i j (λ (x : State). x .table ≡ s .table) refl λ a. refl
+
+-- it takes no work away
+pub arrive-pending : (s : State) (i j k : ℕ) → somePending (entryAt s k .loads) ≡ true → somePending (entryAt (arriveOf s i j .state) k .loads) ≡ true
+arrive-pending s i j k h = arrive-either s i j (λ (x : State). somePending (entryAt x k .loads) ≡ true) h λ a. go (s .entries) i k h
+  where
+    E : ℕ
+    E = taskAt (serverAt s i) j .work .0
+
+    go : (es : List Entry) (i k : ℕ) → somePending (getD es k zeroEntry .loads) ≡ true
+        → somePending (getD (alter (λ (e : Entry). withLoads (withArrival E j (e .loads)) e) es i) k zeroEntry .loads) ≡ true
+    go [] i k h = h
+    go (e ∷ es) zero zero h = pending-kept E j (e .loads) h
+    go (e ∷ es) zero (suc k) h = h
+    go (e ∷ es) (suc i) zero h = h
+    go (e ∷ es) (suc i) (suc k) h = go es i k h
 
 -- and a tick not the table
 pub tick-table : (s : State) → stateAfter s .table ≡ s .table

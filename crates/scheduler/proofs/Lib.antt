@@ -1,6 +1,7 @@
 pub mod Lists
 pub mod Altered
 pub mod Stated
+pub mod Lapsing
 pub mod Sizes
 pub mod Choosing
 pub mod Reached
@@ -22,4 +23,5 @@ pub mod TickParts
 pub mod Runs
 pub mod Freshly
 pub mod Points
+pub mod PollingPoints
 pub mod OneOutcome

@@ -8,13 +8,14 @@ use Rattle.queue.proofs.Points.{queue-edge}
 use Rattle.table.specs.Sound.{tableb}
 use Rattle.scheduler.specs.Sound.{entryb, stateb}
 use Rattle.scheduler.specs.Choice.{wantsb, chosenOf, choiceOf}
+use Rattle.scheduler.specs.Polling.{lapsed}
 use Rattle.scheduler.specs.Arrive.{loadAfter, arriveOf}
 use Rattle.scheduler.specs.Tick.{charge, turnOf, roomOf, served4, stateAfter, handledOf, againb, tickOf}
 use Rattle.scheduler.specs.Fresh.{freshQueue, freshEntry, freshState, freshOf}
 use Rattle.scheduler.specs.Edge.{SchedulerEdge}
 
 pub edge : SchedulerEdge
-unfolding insertOf clockOf takeOf holdsb soundb sameb cellsOf queueOf cellsFor tableb entryb stateb wantsb chosenOf choiceOf loadAfter arriveOf charge turnOf roomOf served4 stateAfter handledOf againb tickOf freshQueue freshEntry freshState freshOf
+unfolding insertOf clockOf takeOf holdsb soundb sameb cellsOf queueOf cellsFor tableb entryb stateb wantsb chosenOf choiceOf loadAfter arriveOf charge turnOf roomOf served4 stateAfter handledOf againb tickOf freshQueue freshEntry freshState freshOf lapsed
 edge =
     record {
       queue = queue-edge;

@@ -8,7 +8,7 @@ use native.Mathlib.Omega.{arith}
 use lib.Dec.{leb, ltb, eqb}
 use lib.ListN.{length, getD, drop, drop-of-length-le}
 use borrow.Author.Tests.{leb-true, ltb-true, ltb-false, eqb-true, le-leb}
-use Rattle.refusal.specs.Small.{pick, both}
+use Rattle.refusal.specs.Small.{pick, both, alter}
 use Rattle.refusal.proofs.Small.{both-left, both-right}
 use Rattle.queue.specs.Limits.{maxGap, longest}
 use Rattle.queue.specs.Row.{Event, eventsOf}
@@ -23,7 +23,7 @@ use Rattle.table.specs.declared.Server.{Server}
 use Rattle.table.specs.declared.Table.{Table}
 use Rattle.table.proofs.Used.{used-none, each-from}
 use Rattle.scheduler.specs.State.{mostPending, serverAt, entryAt, zeroLoad, zeroEntry}
-use Rattle.scheduler.specs.Sound.{releaseReach, taskReaches, serverReaches, loadb, zeroLoadb, entryb, entriesb, stateb}
+use Rattle.scheduler.specs.Sound.{releaseReach, taskReaches, serverReaches, loadb, zeroLoadb, entryb, eachb, entriesb, allSpentb, stateb}
 use Rattle.scheduler.specs.Moves.{allOf, pendingBelow}
 use Rattle.scheduler.specs.declared.Load.{Load}
 use Rattle.scheduler.specs.declared.Entry.{Entry}
@@ -177,47 +177,59 @@ pub record Stated (s : State) : Type 0 where
   pub servers : TableStated (s .table)
   pub entry : (i : ℕ) → i < entries → entryb (serverAt s i) (entryAt s i) ≡ true
   pub refills : holdsb maxGap longest (serverReaches (s .table .servers)) (s .refills) ≡ true
+  pub spent : allSpentb (s .table .servers) (s .entries) ≡ true
 
-entries-from : (ss : List Server) (es : List Entry) → entriesb ss es ≡ true
-    → (i : ℕ) → i < length ss → i < length es → entryb (getD ss i zeroServer) (getD es i zeroEntry) ≡ true
-entries-from [] es h i l m = absurd (omega arith)
-entries-from (s ∷ ss) [] h i l m = absurd (omega arith)
-entries-from (s ∷ ss) (e ∷ es) h zero l m = both-left _ _ h
-entries-from (s ∷ ss) (e ∷ es) h (suc i) l m = entries-from ss es (both-right (entryb s e) _ h) i (omega arith) (omega arith)
+-- a test of each entry with its server, place by place
+module _ (p : Server → Entry → Bool) where
+  pub paired-from : (ss : List Server) (es : List Entry) → eachb p ss es ≡ true → (i : ℕ) → i < length ss → i < length es → p (getD ss i zeroServer) (getD es i zeroEntry) ≡ true
+  paired-from [] es h i l m = absurd (omega arith)
+  paired-from (s ∷ ss) [] h i l m = absurd (omega arith)
+  paired-from (s ∷ ss) (e ∷ es) h zero l m = both-left _ _ h
+  paired-from (s ∷ ss) (e ∷ es) h (suc i) l m = paired-from ss es (both-right (p s e) _ h) i (omega arith) (omega arith)
 
-entries-to : (ss : List Server) (es : List Entry)
-    → ((i : ℕ) → i < length ss → i < length es → entryb (getD ss i zeroServer) (getD es i zeroEntry) ≡ true) → entriesb ss es ≡ true
-entries-to [] es h = refl
-entries-to (s ∷ ss) [] h = refl
-entries-to (s ∷ ss) (e ∷ es) h =
-    rw (h 0 (omega arith) (omega arith)) (entries-to ss es λ i l m. h (suc i) (omega arith) (omega arith))
+  pub paired-to : (ss : List Server) (es : List Entry)
+      → ((i : ℕ) → i < length ss → i < length es → p (getD ss i zeroServer) (getD es i zeroEntry) ≡ true) → eachb p ss es ≡ true
+  paired-to [] es h = refl
+  paired-to (s ∷ ss) [] h = refl
+  paired-to (s ∷ ss) (e ∷ es) h =
+      rw (h 0 (omega arith) (omega arith)) (paired-to ss es λ i l m. h (suc i) (omega arith) (omega arith))
 
--- the same, walked by the index: a loop that has passed every entry before i; d and z are what a place past the end would hold
-module _ (ss : List Server) (es : List Entry) (same : length ss ≡ length es) (i : ℕ) (d : Server) (z : Entry) {b : Bool} (is : b ≡ entriesb (drop i ss) (drop i es)) where
-  entries-step : i < length ss → b ≡ both (entryb (getD ss i d) (getD es i z)) (entriesb (drop (i + 1) ss) (drop (i + 1) es))
-  entries-step h = let k : i < length es = omega arith in is ∙ rw (drop-step ss i d h, drop-step es i z k)
+  -- one changed, as its server allows
+  pub paired-one : (f : Entry → Entry) (ss : List Server) (es : List Entry) (i : ℕ)
+      → ((e : Entry) → p (getD ss i zeroServer) e ≡ true → p (getD ss i zeroServer) (f e) ≡ true) → eachb p ss es ≡ true → eachb p ss (alter f es i) ≡ true
+  paired-one f [] es i k h = refl
+  paired-one f (s ∷ ss) [] i k h = refl
+  paired-one f (s ∷ ss) (e ∷ es) zero k h = rw (k e (both-left _ _ h)) (both-right (p s e) _ h)
+  paired-one f (s ∷ ss) (e ∷ es) (suc i) k h = rw (both-left (p s e) _ h) (paired-one f ss es i k (both-right (p s e) _ h))
 
-  pub entries-stop : i < length ss → entryb (getD ss i d) (getD es i z) ≡ false → b ≡ false
-  entries-stop h e = entries-step h ∙ rw e
+  -- walked by the index: a loop that has passed every entry before i; d and z are what a place past the end would hold
+  module _ (ss : List Server) (es : List Entry) (same : length ss ≡ length es) (i : ℕ) (d : Server) (z : Entry) {b : Bool} (is : b ≡ eachb p (drop i ss) (drop i es)) where
+    paired-step : i < length ss → b ≡ both (p (getD ss i d) (getD es i z)) (eachb p (drop (i + 1) ss) (drop (i + 1) es))
+    paired-step h = let k : i < length es = omega arith in is ∙ rw (drop-step ss i d h, drop-step es i z k)
 
-  pub entries-go : i < length ss → entryb (getD ss i d) (getD es i z) ≡ true → b ≡ entriesb (drop (i + 1) ss) (drop (i + 1) es)
-  entries-go h e = entries-step h ∙ rw e
+    pub paired-stop : i < length ss → p (getD ss i d) (getD es i z) ≡ false → b ≡ false
+    paired-stop h e = paired-step h ∙ rw e
 
-  pub entries-end : length ss ≤ i → b ≡ true
-  entries-end h = is ∙ rw (drop-of-length-le ss h)
+    pub paired-go : i < length ss → p (getD ss i d) (getD es i z) ≡ true → b ≡ eachb p (drop (i + 1) ss) (drop (i + 1) es)
+    paired-go h e = paired-step h ∙ rw e
+
+    pub paired-end : length ss ≤ i → b ≡ true
+    paired-end h = is ∙ rw (drop-of-length-le ss h)
 
 pub stated : (s : State) → Eight s → stateb s ≡ true ↔ Stated s
 unfolding stateb
 stated s z = (
   λ h.
       let r = both-right (tableb longest mostWork (s .table)) _ h in
+      let q = both-right (entriesb (s .table .servers) (s .entries)) _ r in
       record {
         table = both-left _ _ h;
         servers = table-stated (s .table) (z .servers) (both-left _ _ h);
-        entry = λ i l. entries-from (s .table .servers) (s .entries) (both-left _ _ r) i (omega (arith, z .servers)) (omega (arith, z .entries));
-        refills = both-right (entriesb (s .table .servers) (s .entries)) _ r;
+        entry = λ i l. paired-from entryb (s .table .servers) (s .entries) (both-left _ _ r) i (omega (arith, z .servers)) (omega (arith, z .entries));
+        refills = both-left _ _ q;
+        spent = both-right (holdsb maxGap longest (serverReaches (s .table .servers)) (s .refills)) _ q;
       },
   λ h.
-      let e : entriesb (s .table .servers) (s .entries) ≡ true = entries-to (s .table .servers) (s .entries) λ i l m. h .entry i (omega (arith, z .servers)) in
-      rw (h .table, e) (h .refills),
+      let e : entriesb (s .table .servers) (s .entries) ≡ true = paired-to entryb (s .table .servers) (s .entries) λ i l m. h .entry i (omega (arith, z .servers)) in
+      rw (h .table, e, h .refills) (h .spent),
 )

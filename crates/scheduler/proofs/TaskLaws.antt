@@ -27,7 +27,7 @@ use Rattle.scheduler.specs.State.{mostPending, load, zeroLoad, zeroEntry
 use Rattle.scheduler.specs.Sound.{taskReaches, serverReaches, entryb, entriesb, stateb}
 use Rattle.scheduler.specs.Choice.{firstPending, chosenOf, choiceOf}
 use Rattle.scheduler.specs.Arrive.{arrivalBy, arrivalNumber, lostAfter, loadAfter, withArrival, withLoads, arriveOf}
-use Rattle.scheduler.specs.Tick.{lessWork, charge, clocked, dueIds, dueIn, refilled, fullAt, taskDelay, arrivedLoads, served4, eachEntry, dueEvents, chargedEntries, stateAfter, handledOf}
+use Rattle.scheduler.specs.Tick.{lessWork, charge, clocked, dueIds, dueIn, refilled, fullAt, taskDelay, arrivedLoads, served4, eachEntry, dueEvents, chargedEntries, handledEntries, stateAfter, handledOf}
 use Rattle.scheduler.specs.Meaning.{SizedState, loadAt, arrivalThere, arrivalAway, runsb, dueNext, allDueNext}
 use Rattle.scheduler.specs.declared.Load.{Load}
 use Rattle.scheduler.specs.declared.Entry.{Entry}
@@ -37,6 +37,7 @@ use Rattle.scheduler.proofs.Lists.{length-alter}
 use Rattle.scheduler.proofs.Altered.{read-altered, alter-keeps}
 use Rattle.scheduler.proofs.Unchanged.{arrive-done}
 use Rattle.scheduler.proofs.Stated.{Stated, stated, entry-stated, every-server}
+use Rattle.scheduler.proofs.Lapsing.{lapsed-keeps, lapsed-at}
 use Rattle.scheduler.proofs.KeptSizes.{charge-count, before-length}
 use Rattle.scheduler.proofs.HeldEach.{HeldEach, held-each, held-rests}
 use Rattle.scheduler.proofs.Again.{inb, ids-in, one-away, Moved, held-due, held-moved}
@@ -121,11 +122,14 @@ module _ (s : State) (z : SizedState s) (h : stateb s ≡ true) (i : ℕ) (l : i
   abbrev before : Entry
   before = getD (refilled (fullAt s) (dueIn (s .refills)) (chargedEntries s)) i zeroEntry
 
-  after : entryAt (stateAfter s) i ≡ served4 (serverAt s i) before
+  -- what the tick makes of it, but for the budget, which may be given up
+  after : {A : Type 0} (f : Entry → A) → ((e : Entry) → f (withBudget 0 e) ≡ f e) → f (entryAt (stateAfter s) i) ≡ f (served4 (serverAt s i) before)
   unfolding stateAfter
-  after =
+  after f k =
       let n = before-length s ∙ z .servers in
-      each-at served4 (s .table .servers) _ i (omega (arith, z .table .servers)) (omega arith)
+      ap f (lapsed-at (s .table .servers) (handledEntries s) i)
+      ∙ lapsed-keeps (serverAt s i) (getD (handledEntries s) i zeroEntry) f (k _)
+      ∙ ap f (each-at served4 (s .table .servers) _ i (omega (arith, z .table .servers)) (omega arith))
 
   same-arrivals : before .arrivals ≡ entryAt s i .arrivals
   unfolding charge
@@ -149,7 +153,7 @@ module _ (s : State) (z : SizedState s) (h : stateb s ≡ true) (i : ℕ) (l : i
   unfolding served4
   turned =
       let m = held-moved (taskDelay (serverAt s i)) (taskReaches (serverAt s i .tasks)) (entryAt s i .arrivals) queue (λ j r. task-delayed (serverAt s i) (every-server (s .table) (parts .servers) i l) j r .1) in
-      rw (after, same-arrivals) m
+      rw (after (λ (e : Entry). e .arrivals) (λ e. refl), same-arrivals) m
 
   -- "go in again T away", and every other comes 1 nearer: the same arrivals are there
   pub tick-arrivals : (j : ℕ) → arrivalThere (stateAfter s) i j ≡ arrivalThere s i j
@@ -187,7 +191,7 @@ module _ (s : State) (z : SizedState s) (h : stateb s ≡ true) (i : ℕ) (l : i
         let q = entryAt s i .arrivals in
         let c : soundb maxGap longest (clocked q) ≡ true = clock-sound maxGap longest q (omega arith) (queue .sound) in
         let o : Once (dueIn q) = due-once (eventsOf (clocked q)) (sound-is maxGap longest (clocked q) c .distinct) in
-        rw (after, same-arrivals)
+        rw (after (λ (e : Entry). getD (e .loads) j zeroLoad) (λ e. refl), same-arrivals)
         (arrived-at (serverAt s i) (dueIn q) (before .loads) j o (omega (arith, full-loads)) ∙ rw (charged-load, held-due (taskReaches (serverAt s i .tasks)) q queue j))
 
 -- AN ARRIVAL

@@ -3,7 +3,7 @@
 use mathlib.Core.Path.{_≡_, refl, sym, ap, _∙_}
 use mathlib.Core.Bool.{true, false}
 use mathlib.Core.List.{List, [], _∷_, _++_, append-nil, append-assoc}
-use Prim.Native.Nat.{ℕ, zero, suc, _+_, _*_, _≤_, _<_}
+use Prim.Native.Nat.{ℕ, zero, suc, _+_, _-_, _*_, _≤_, _<_}
 use native.Mathlib.Numerals.{add-one}
 use native.Mathlib.Omega.{arith}
 use lib.Dec.{ltb, eqb}
@@ -22,15 +22,17 @@ use Rattle.table.specs.Table.{zeroServer}
 use Rattle.table.specs.declared.Server.{Server}
 use Rattle.table.specs.declared.Table.{Table}
 use Rattle.scheduler.specs.State.{zeroLoad, zeroEntry, withBudget, serverAt, entryAt}
-use Rattle.scheduler.specs.Sound.{entryb, stateb}
+use Rattle.scheduler.specs.Sound.{entryb, entriesb, stateb}
 use Rattle.scheduler.specs.Choice.{firstPending, readyb, wantsb, chosenOf, choiceBy, choiceOf}
-use Rattle.scheduler.specs.Tick.{charge, refilled, dueIn, dueEvents, served4, eachEntry, chargedEntries, stateAfter, handledOf}
-use Rattle.scheduler.specs.Moves.{tabledb, withQueue, servedTurn}
+use Rattle.scheduler.specs.Polling.{lapsed}
+use Rattle.scheduler.specs.Tick.{charge, refilled, dueIn, dueEvents, served4, eachEntry, chargedEntries, handledEntries, stateAfter, handledOf}
+use Rattle.scheduler.specs.Moves.{tabledb, withQueue, servedTurn, givesUpb, PolledBelow}
 use Rattle.scheduler.specs.declared.Entry.{Entry}
 use Rattle.scheduler.specs.declared.EntryTurn.{EntryTurn}
 use Rattle.scheduler.specs.declared.State.{State}
 use Rattle.scheduler.proofs.Lists.{pastServer, pastEntry, getD-inside, set-alter, length-alter, alter-past}
-use Rattle.scheduler.proofs.Stated.{every-server, entry-stated, held, Eight, stated}
+use Rattle.scheduler.proofs.Stated.{every-server, entry-stated, held, Eight, paired-from, stated}
+use Rattle.scheduler.proofs.Lapsing.{lapsed-same, lapsed-given, lapsed-at, lapsed-length}
 use Rattle.scheduler.proofs.Choosing.{FirstOf, first-ready, first-pending}
 use Rattle.scheduler.proofs.TickSound.{state-parts, before-sound, tick-sound}
 use Rattle.scheduler.proofs.KeptSizes.{served-length, before-length, tick-length, tick-loads}
@@ -164,6 +166,58 @@ module _ {t : Table} {es₀ es : List Entry} {n₀ n i : ℕ} (v : Serving t es�
       let k = still-tick (entry .arrivals) h in
       rw (set-getD es i pastEntry) at (serve-none (entry .arrivals) (k .0) (k .1))
 
+-- BUDGETS THAT ARE GIVEN UP
+
+-- the first p entries have given up what they had to, the others are as they were
+pub record Lapsing (t : Table) (es₀ es : List Entry) (p : ℕ) : Type 0 where
+  pub servers : length (t .servers) ≡ entries
+  pub full : length es₀ ≡ entries
+  pub place : p ≤ entries
+  pub given : es ≡ firsts (λ j. lapsed (getD (t .servers) j zeroServer) (getD es₀ j zeroEntry)) p ++ drop p es₀
+
+module _ {t : Table} {es₀ es : List Entry} where
+  module _ {p : ℕ} (v : Lapsing t es₀ es p) (l : p < entries) where
+    -- what the code reads at p, which is as it was
+    abbrev polled : Server
+    polled = getD (t .servers) p pastServer
+
+    abbrev lapsing : Entry
+    lapsing = getD es p pastEntry
+
+    lapse-more : {y : Entry} → y ≡ lapsed polled lapsing → Lapsing t es₀ (set es p y) (p + 1)
+    lapse-more e =
+        let f : ℕ → Entry = λ j. lapsed (getD (t .servers) j zeroServer) (getD es₀ j zeroEntry) in
+        let i : p < length es₀ = omega (arith, v .full) in
+        let s = getD-inside (t .servers) p pastServer zeroServer (omega (arith, v .servers)) in
+        let x = ap (λ (z : List Entry). getD z p pastEntry) (v .given) ∙ firsts-at f es₀ p pastEntry i ∙ getD-inside es₀ p pastEntry zeroEntry i in
+        record {
+          servers = v .servers;
+          full = v .full;
+          place = omega arith;
+          given = (λ k. set (v .given k) p ((e ∙ (λ d. lapsed (s d) (x d))) k)) ∙ firsts-more f es₀ p zeroEntry i;
+        }
+
+    pub lapse-given : {y : Entry} → givesUpb (polled .kind) lapsing ≡ true → y ≡ withBudget 0 lapsing → Lapsing t es₀ (set es p y) (p + 1)
+    lapse-given h e = lapse-more (e ∙ sym (lapsed-given polled lapsing h))
+
+    pub lapse-none : givesUpb (polled .kind) lapsing ≡ false → Lapsing t es₀ es (p + 1)
+    lapse-none h = rw (set-getD es p pastEntry) at (lapse-more (sym (lapsed-same polled lapsing h)))
+
+  -- behind the last polling server nothing is given up
+  module _ {c : ℕ} (b : PolledBelow (t .servers) c) where
+    lapse-rest : (d p : ℕ) → p + d ≡ entries → c ≤ p → Lapsing t es₀ es p → Lapsing t es₀ es entries
+    lapse-rest zero p e g v = let q : p ≡ entries = omega arith in rw q at v
+    lapse-rest (suc d) p e g v =
+        let s = getD-inside (t .servers) p pastServer zeroServer (omega (arith, v .servers)) in
+        let n : eqb (getD (t .servers) p pastServer .kind) 3 ≡ false = rw s (b p g) in
+        lapse-rest d (p + 1) (omega arith) (omega arith) (lapse-none v (omega arith) (rw n))
+
+    pub lapse-end : {p : ℕ} → Lapsing t es₀ es p → c ≤ p → es ≡ eachEntry lapsed (t .servers) es₀
+    lapse-end {p = p} v g =
+        let w = lapse-rest (entries - p) p (omega (arith, v .place)) g v in
+        w .given ∙ firsts-all _ es₀ (eachEntry lapsed (t .servers) es₀) zeroEntry entries (omega (arith, w .full)) (lapsed-length (t .servers) es₀ ∙ w .full)
+        (λ j h. lapsed-at (t .servers) es₀ j)
+
 -- THE HANDLED COUNT
 
 -- a change that leaves the queues as they are leaves what is due in them
@@ -270,21 +324,23 @@ module _ (s : State) (k : Ticking s) where
   module _ {es₀ : List Entry} {q : Queue} {n₀ : ℕ} (r : Refilled s es₀ q n₀) where
     pub refilled-fitting : Fitting (s .table) es₀
     refilled-fitting =
-        let b : State = record { entries = es₀; table = s .table; refills = s .refills } in
         let l : length es₀ ≡ entries = ap length (r .budgets) ∙ before-length s ∙ k .eight .entries in
-        let p = state-parts s .0 (k .sound) in
-        let h = state-parts b .1 record { table = p .table; entries = rw (r .budgets) (before-sound s (k .sound)); refills = p .refills } in
-        let a = stated b record { servers = k .eight .servers; entries = l } .0 h in
-        record { servers = k .eight .servers; full = l; tabled = λ i m. tabled _ .1 (every-server (s .table) (a .servers) i m); sound = a .entry }
+        let h : entriesb (s .table .servers) es₀ ≡ true = rw (r .budgets) (before-sound s (k .sound)) in
+        record {
+          servers = k .eight .servers;
+          full = l;
+          tabled = λ i m. tabled _ .1 (every-server (s .table) (stated s (k .eight) .0 (k .sound) .servers) i m);
+          sound = λ i m. paired-from entryb (s .table .servers) es₀ h i (omega (arith, k .eight .servers)) (omega arith);
+        }
 
-    -- where all entries have been served the tick is done
+    -- where all entries have been served the events are handled
     module _ {es : List Entry} {n i : ℕ} (v : Serving (s .table) es₀ n₀ es n i) (m : entries ≤ i) where
       last : i ≡ entries
       last = omega (arith, v .place)
 
-      pub tick-state : record { entries = es; table = s .table; refills = q } ≡ stateAfter s
-      unfolding stateAfter servedTurn
-      tick-state =
+      handled-all : es ≡ handledEntries s
+      unfolding servedTurn
+      handled-all =
           let f = v .fitting in
           let ss = s .table .servers in
           let l : length (eachEntry served4 ss es₀) ≡ entries = served-length ss es₀ ∙ f .full in
@@ -292,7 +348,19 @@ module _ (s : State) (k : Ticking s) where
           firsts-all (λ j. turnAt (s .table) es₀ j .entry) es₀ (eachEntry served4 ss es₀) zeroEntry entries (omega (arith, f .full)) l
           (λ j h. each-at served4 ss es₀ j (omega (arith, f .servers)) (omega (arith, f .full))) in
           let end = ap (λ (j : ℕ). firsts (λ h. turnAt (s .table) es₀ h .entry) j ++ drop j es₀) last in
-          let e = v .served ∙ end ∙ all ∙ ap (eachEntry served4 ss) (r .budgets) in
+          v .served ∙ end ∙ all ∙ ap (eachEntry served4 ss) (r .budgets)
+
+      pub lapse-start : Lapsing (s .table) es es 0
+      lapse-start =
+          let l = ap length handled-all ∙ served-length (s .table .servers) _ ∙ before-length s ∙ k .eight .entries in
+          record { servers = k .eight .servers; full = l; place = omega arith; given = refl }
+
+      -- and where no polling server is left the tick is done
+      pub tick-state : {fs : List Entry} {p c : ℕ} → Lapsing (s .table) es fs p → PolledBelow (s .table .servers) c → c ≤ p
+          → record { entries = fs; table = s .table; refills = q } ≡ stateAfter s
+      unfolding stateAfter
+      tick-state w b g =
+          let e = lapse-end {t = s .table} b w g ∙ ap (eachEntry lapsed (s .table .servers)) handled-all in
           λ d. record { entries = e d; table = s .table; refills = r .queue d }
 
       pub tick-count : n ≡ handledOf s

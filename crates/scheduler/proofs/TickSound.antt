@@ -26,16 +26,17 @@ use Rattle.table.specs.declared.Server.{Server}
 use Rattle.table.specs.declared.Table.{Table}
 use Rattle.table.proofs.Soundness.{range-within}
 use Rattle.scheduler.specs.State.{mostPending, mostLost, load, withBudget, serverAt, taskAt}
-use Rattle.scheduler.specs.Sound.{releaseReach, taskReaches, serverReaches, loadb, zeroLoadb, entryb, entriesb, stateb}
+use Rattle.scheduler.specs.Sound.{releaseReach, taskReaches, serverReaches, loadb, zeroLoadb, entryb, spentb, entriesb, allSpentb, stateb}
 use Rattle.scheduler.specs.Choice.{firstPending, chosenOf, choiceOf}
 use Rattle.scheduler.specs.Arrive.{fitsb, lostAfter, loadAfter, withArrival, withLoads, arrivedState, arriveOf}
-use Rattle.scheduler.specs.Tick.{lessWork, charge, dueIn, roomOf, taskDelay, refilled, periodAt, fullAt, refillsTurn, arrivedLoads, arrivalsTurn, served4, eachEntry, allRoomb, chargedEntries, stateAfter, handledOf, againb, tickedWith, tickOf}
+use Rattle.scheduler.specs.Tick.{lessWork, charge, dueIn, roomOf, taskDelay, refilled, periodAt, fullAt, refillsTurn, arrivedLoads, arrivalsTurn, served4, eachEntry, allRoomb, chargedEntries, handledEntries, stateAfter, handledOf, againb, tickedWith, tickOf}
 use Rattle.scheduler.specs.Run.{stateAfterTicks, ticksIn, runOf}
 use Rattle.scheduler.specs.declared.Load.{Load}
 use Rattle.scheduler.specs.declared.Entry.{Entry}
 use Rattle.scheduler.specs.declared.State.{State}
 use Rattle.scheduler.proofs.Altered.{used-any, used-one}
-use Rattle.scheduler.proofs.Stated.{EntryStated, entry-stated, ServerStated, server-stated, zero-stated, server-reach, task-reach}
+use Rattle.scheduler.proofs.Stated.{EntryStated, entry-stated, ServerStated, server-stated, zero-stated, server-reach, task-reach, paired-one}
+use Rattle.scheduler.proofs.Lapsing.{entries-lapsed, all-spent, arrived-spent}
 use Rattle.scheduler.proofs.Turns.{in-use}
 use Rattle.scheduler.proofs.Refusals.{tick-30, tick-accepted, arrive-accepted, run-accepted}
 use Rattle.scheduler.proofs.Unchanged.{tick-done, arrive-either, run-done}
@@ -171,21 +172,13 @@ module _ (s : Server) (k : ServerStated s) where
 
 -- ALL ENTRIES
 
--- one changed, as its server allows
-entries-one : (f : Entry → Entry) (ss : List Server) (es : List Entry) (i : ℕ)
-    → ((e : Entry) → entryb (getD ss i zeroServer) e ≡ true → entryb (getD ss i zeroServer) (f e) ≡ true) → entriesb ss es ≡ true → entriesb ss (alter f es i) ≡ true
-entries-one f [] es i k h = refl
-entries-one f (s ∷ ss) [] i k h = refl
-entries-one f (s ∷ ss) (e ∷ es) zero k h = rw (k e (both-left _ _ h)) (both-right (entryb s e) _ h)
-entries-one f (s ∷ ss) (e ∷ es) (suc i) k h = rw (both-left (entryb s e) _ h) (entries-one f ss es i k (both-right (entryb s e) _ h))
-
 -- C of the server at a place
 abbrev fullIn : List Server → ℕ → ℕ
 fullIn ss i = getD ss i zeroServer .budget .0
 
 entries-refilled : (ss : List Server) (ids : List ℕ) (es : List Entry) → entriesb ss es ≡ true → entriesb ss (refilled (fullIn ss) ids es) ≡ true
 entries-refilled ss [] es h = h
-entries-refilled ss (id ∷ ids) es h = entries-refilled ss ids _ (entries-one (withBudget (fullIn ss id)) ss es id (fill-sound (getD ss id zeroServer)) h)
+entries-refilled ss (id ∷ ids) es h = entries-refilled ss ids _ (paired-one entryb (withBudget (fullIn ss id)) ss es id (fill-sound (getD ss id zeroServer)) h)
 
 -- what is known of every server of a table, in use or not
 abbrev pub Every : List Server → Type 0
@@ -214,14 +207,21 @@ pub record Parts (s : State) : Type 0 where
   pub table : tableb longest mostWork (s .table) ≡ true
   pub entries : entriesb (s .table .servers) (s .entries) ≡ true
   pub refills : holdsb maxGap longest (serverReaches (s .table .servers)) (s .refills) ≡ true
+  pub spent : allSpentb (s .table .servers) (s .entries) ≡ true
 
 pub state-parts : (s : State) → stateb s ≡ true ↔ Parts s
 unfolding stateb
 state-parts s = (
   λ h.
       let r = both-right (tableb longest mostWork (s .table)) _ h in
-      record { table = both-left _ _ h; entries = both-left _ _ r; refills = both-right (entriesb (s .table .servers) (s .entries)) _ r },
-  λ h. rw (h .table, h .entries) (h .refills),
+      let q = both-right (entriesb (s .table .servers) (s .entries)) _ r in
+      record {
+        table = both-left _ _ h;
+        entries = both-left _ _ r;
+        refills = both-left _ _ q;
+        spent = both-right (holdsb maxGap longest (serverReaches (s .table .servers)) (s .refills)) _ q;
+      },
+  λ h. rw (h .table, h .entries, h .refills) (h .spent),
 )
 
 -- THE TABLE
@@ -272,7 +272,7 @@ module _ (s : State) (h : stateb s ≡ true) where
   pub before-sound : entriesb (s .table .servers) (refilled (fullAt s) (dueIn (s .refills)) (chargedEntries s)) ≡ true
   before-sound =
       let ss = s .table .servers in
-      let a = entries-one charge ss (s .entries) (chosenOf s) (charge-sound (serverAt s (chosenOf s))) (state .entries) in
+      let a = paired-one entryb charge ss (s .entries) (chosenOf s) (charge-sound (serverAt s (chosenOf s))) (state .entries) in
       entries-refilled ss (dueIn (s .refills)) (chargedEntries s) a
 
   -- A SOUND STATE STAYS SOUND under a tick
@@ -282,8 +282,9 @@ module _ (s : State) (h : stateb s ≡ true) where
       let ss = s .table .servers in
       state-parts (stateAfter s) .1 record {
         table = state .table;
-        entries = entries-served ss _ (table-every (s .table) (state .table)) before-sound;
+        entries = entries-lapsed ss _ (entries-served ss _ (table-every (s .table) (state .table)) before-sound);
         refills = held-each (serverReaches ss) (refillsTurn s) .1 (held-again (periodAt s) (serverReaches ss) (s .refills) refills-each (server-delayed (s .table) (state .table)));
+        spent = all-spent ss (handledEntries s);
       }
 
   pub tick-accepts : tickOf s ≡ tickedWith none (choiceOf s) (handledOf s) (stateAfter s)
@@ -303,8 +304,9 @@ module _ (s : State) (h : stateb s ≡ true) where
       next a =
           state-parts (arrivedState s i j) .1 record {
             table = state .table;
-            entries = entries-one (λ (e : Entry). withLoads (withArrival E j (e .loads)) e) (s .table .servers) (s .entries) i (load-sound (serverAt s i) E j (arrive-accepted s i j .0 a .2)) (state .entries);
+            entries = paired-one entryb (λ (e : Entry). withLoads (withArrival E j (e .loads)) e) (s .table .servers) (s .entries) i (load-sound (serverAt s i) E j (arrive-accepted s i j .0 a .2)) (state .entries);
             refills = state .refills;
+            spent = paired-one spentb (λ (e : Entry). withLoads (withArrival E j (e .loads)) e) (s .table .servers) (s .entries) i (arrived-spent E j (serverAt s i)) (state .spent);
           }
 
 -- 30 IS NEVER GIVEN: 8 events and 15 fillers are 23 cells

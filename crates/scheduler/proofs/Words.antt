@@ -1,7 +1,7 @@
 -- The test of a state says what specs/Meaning.antt says, as each of its parts is tested place by place, and a place that is not in use has no reach, and so no
 -- event. The arrays have their lengths. Assumes nothing.
 use mathlib.Core.Path.{_≡_, refl, sym, ap, _∙_}
-use mathlib.Core.Bool.{Bool, true, false}
+use mathlib.Core.Bool.{Bool, true, false, not}
 use mathlib.Core.List.{List, [], _∷_}
 use mathlib.Core.Logic.{_↔_}
 use Prim.Native.Nat.{ℕ, zero, suc, _≤_, _<_, max}
@@ -10,7 +10,7 @@ use lib.Dec.{leb, ltb, eqb}
 use lib.ListN.{length, getD, replicate, List·getD-eq-default}
 use lib.Seq.{ext-getD}
 use borrow.Author.Tests.{leb-true, leb-false, ltb-true, ltb-false, eqb-true, eq-eqb, le-leb}
-use Rattle.refusal.specs.Small.{pick}
+use Rattle.refusal.specs.Small.{pick, both}
 use Rattle.refusal.proofs.Small.{both-left, both-right}
 use Rattle.queue.specs.Limits.{maxGap, longest}
 use Rattle.queue.specs.Row.{Event, cellsOf, queueOf, eventsOf, normal}
@@ -32,13 +32,15 @@ use Rattle.table.specs.declared.Server.{Server}
 use Rattle.table.proofs.Used.{Each, each-from, each-to}
 use Rattle.table.proofs.Soundness.{table-sound}
 use Rattle.scheduler.specs.State.{mostPending, mostLost, zeroLoad, zeroEntry, serverAt, entryAt, taskAt}
-use Rattle.scheduler.specs.Sound.{releaseReach, taskReaches, serverReaches, loadb, zeroLoadb, entryb, stateb}
+use Rattle.scheduler.specs.Choice.{pendingb, somePending}
+use Rattle.scheduler.specs.Sound.{releaseReach, taskReaches, serverReaches, loadb, zeroLoadb, entryb, spentb, stateb}
 use Rattle.scheduler.specs.Tick.{periodAt}
 use Rattle.scheduler.specs.Meaning.{SizedState, loadAt, releaseAt, largerAt, PeriodicTask, SoundState}
 use Rattle.scheduler.specs.declared.Load.{Load}
 use Rattle.scheduler.specs.declared.Entry.{Entry}
 use Rattle.scheduler.specs.declared.State.{State}
-use Rattle.scheduler.proofs.Stated.{server-reach, task-reach, EntryStated, entry-stated, table-stated, Eight, Stated, stated}
+use Rattle.scheduler.proofs.Stated.{server-reach, task-reach, EntryStated, entry-stated, table-stated, Eight, Stated, paired-from, paired-to, stated}
+use Rattle.scheduler.proofs.Choosing.{some-none}
 use Rattle.scheduler.proofs.HeldEach.{held-each, held-reached}
 
 -- WHAT IS NOT IN USE
@@ -191,6 +193,20 @@ module _ (s : State) (t : SoundTable longest mostWork (s .table)) where
       let same : (j : ℕ) → getD (taskReaches (serverAt s i .tasks)) j 0 ≡ largerAt s i j = λ j. task-reach (serverAt s i .tasks) j ∙ release-larger (releaseAt s i j) in
       exactly (taskReaches (serverAt s i .tasks)) (PeriodicTask s i) (largerAt s i) same (arrival-reached i) (entryAt s i .arrivals)
 
+-- A BUDGET THAT IS GIVEN UP
+
+spent-words : (s : Server) (e : Entry) → spentb s e ≡ true ↔ (s .kind ≡ 3 → ((j : ℕ) → pendingb (getD (e .loads) j zeroLoad) ≡ false) → e .budget .0 ≡ 0)
+spent-words s e = (forth, back (eqb (s .kind) 3) (somePending (e .loads)) refl refl)
+  where
+    forth : spentb s e ≡ true → s .kind ≡ 3 → ((j : ℕ) → pendingb (getD (e .loads) j zeroLoad) ≡ false) → e .budget .0 ≡ 0
+    forth h k n = eqb-true (e .budget .0) 0 (rw (eq-eqb (s .kind) 3 k, some-none (e .loads) .1 n) at h)
+
+    back : (a b : Bool) → eqb (s .kind) 3 ≡ a → somePending (e .loads) ≡ b
+        → (s .kind ≡ 3 → ((j : ℕ) → pendingb (getD (e .loads) j zeroLoad) ≡ false) → e .budget .0 ≡ 0) → pick (both a (not b)) (eqb (e .budget .0) 0) true ≡ true
+    back true true p q h = refl
+    back true false p q h = eq-eqb (e .budget .0) 0 (h (eqb-true (s .kind) 3 p) (some-none (e .loads) .0 q))
+    back false b p q h = refl
+
 -- THE STATE
 
 module _ (s : State) (z : SizedState s) where
@@ -243,6 +259,9 @@ module _ (s : State) (z : SizedState s) where
       arrivals-held = λ i. arrivals-known i .held;
       refills-away = refills-known .near;
       arrivals-away = λ i. arrivals-known i .near;
+      polling = λ i u.
+          let l : i < entries = omega (arith, known .count .high) in
+          spent-words (serverAt s i) (entryAt s i) .0 (paired-from spentb (s .table .servers) (s .entries) (parts .spent) i (omega (arith, eight .servers)) (omega (arith, eight .entries)));
     }
 
   state-back : SoundState s → stateb s ≡ true
@@ -251,6 +270,7 @@ module _ (s : State) (z : SizedState s) where
     servers = table-stated (s .table) (z .table .servers) tested;
     entry = λ i l. go i l (ltb i (s .table .count)) refl;
     refills = refills-exactly s (w .table) .1 record { sound = w .refills-sound; held = w .refills-held; near = w .refills-away };
+    spent = paired-to spentb (s .table .servers) (s .entries) λ i l m. rests i (ltb i (s .table .count)) refl;
   }
     where
       tested : tableb longest mostWork (s .table) ≡ true
@@ -272,6 +292,10 @@ module _ (s : State) (z : SizedState s) where
       go i l false p =
           let m : s .table .count ≤ i = ltb-false i (s .table .count) p in
           rw (unused-server s (w .table) i m, w .unused-servers i m l) zero-passes
+
+      rests : (i : ℕ) (b : Bool) → ltb i (s .table .count) ≡ b → spentb (serverAt s i) (entryAt s i) ≡ true
+      rests i true p = spent-words (serverAt s i) (entryAt s i) .1 (w .polling i (ltb-true i (s .table .count) p))
+      rests i false p = rw (unused-server s (w .table) i (ltb-false i (s .table .count) p))
 
 -- "A STATE IS SOUND IF .."
 pub state-sound : (s : State) → SizedState s → stateb s ≡ true ↔ SoundState s

@@ -27,9 +27,10 @@ abbrev pub somePending : List Load → Bool
 somePending [] = false
 somePending (l ∷ ls) = pick (pendingb l) true (somePending ls)
 
--- "A server wants a tick if it is idling (kind 1), or deferrable (kind 2) with work pending in some task"
+-- "A server wants a tick if it is idling (kind 1), or deferrable (kind 2) with work pending in some task"; "Kind 3 wants a tick as kind 2 does" (document
+-- 02, #101)
 unfoldable pub wantsb : ℕ → Entry → Bool
-wantsb kind e = pick (eqb kind 1) true (both (eqb kind 2) (somePending (e .loads)))
+wantsb kind e = pick (eqb kind 1) true (both (pick (eqb kind 2) true (eqb kind 3)) (somePending (e .loads)))
 
 -- it wants and has budget
 abbrev pub readyb : ℕ → Entry → Bool

@@ -21,6 +21,7 @@ use Rattle.table.specs.declared.Task.{Task}
 use Rattle.table.specs.declared.Server.{Server}
 use Rattle.table.specs.declared.Table.{Table}
 use Rattle.scheduler.specs.State.{load, zeroEntry}
+use Rattle.scheduler.specs.Polling.{lapsed}
 use Rattle.scheduler.specs.declared.Load.{Load}
 use Rattle.scheduler.specs.declared.Entry.{Entry}
 use Rattle.scheduler.specs.declared.State.{State}
@@ -58,8 +59,13 @@ putIn f (x ∷ xs) i q = putIn f xs (suc i) (pick (eqb (f x) 0) q (insertOf maxG
 unfoldable pub freshQueue : {A : Type 0} → (A → ℕ) → List A → Queue
 freshQueue f xs = putIn f xs 0 (queueOf [])
 
+-- "each budget is C"
+abbrev pub filledEntry : Server → Entry
+filledEntry s = record { loads = freshLoads (s .tasks); arrivals = freshQueue taskAway (s .tasks); budget = s .budget }
+
+-- but "at setup .. a polling server with no pending work has its budget set to 0" (document 02, #101)
 unfoldable pub freshEntry : Server → Entry
-freshEntry s = record { loads = freshLoads (s .tasks); arrivals = freshQueue taskAway (s .tasks); budget = s .budget }
+freshEntry s = lapsed s (filledEntry s)
 
 abbrev pub freshEntries : List Server → List Entry
 freshEntries [] = []

@@ -1,6 +1,7 @@
 pub mod State
-pub mod Sound
 pub mod Choice
+pub mod Polling
+pub mod Sound
 pub mod Arrive
 pub mod Tick
 pub mod Run
@@ -8,3 +9,4 @@ pub mod Fresh
 pub mod Moves
 pub mod Meaning
 pub mod Edge
+pub mod PollingEdge

@@ -1,4 +1,4 @@
--- The words of document 01 that the laws of a state are stated in.
+-- The words of document 01, and of document 02 where it is named, that the laws of a state are stated in.
 use mathlib.Core.Path.{_≡_}
 use mathlib.Core.Bool.{Bool, true, false}
 use mathlib.Core.List.{List, [], _∷_}
@@ -18,6 +18,7 @@ use Rattle.table.specs.Meaning.{Within, SoundTable, Sized}
 use Rattle.table.specs.declared.Release.{Release}
 use Rattle.scheduler.specs.State.{mostPending, mostLost, zeroLoad, zeroEntry, serverAt, entryAt, taskAt}
 use Rattle.scheduler.specs.Choice.{pendingb, readyb, choiceOf, servesb}
+use Rattle.scheduler.specs.Polling.{lapsesb}
 use Rattle.scheduler.specs.Tick.{periodAt, fullAt}
 use Rattle.scheduler.specs.declared.Load.{Load}
 use Rattle.scheduler.specs.declared.Entry.{Entry}
@@ -60,6 +61,10 @@ refillThere s i = hasb i (eventsOf (s .refills))
 abbrev pub refillAway : State → ℕ → ℕ
 refillAway s i = distanceOf i (eventsOf (s .refills))
 
+-- server i is "a polling server with no pending work"
+abbrev pub lapsesAt : State → ℕ → Bool
+lapsesAt s i = lapsesb (serverAt s i .kind) (entryAt s i)
+
 -- how task j of server i is released, and the larger of its T and O
 
 abbrev pub releaseAt : State → ℕ → ℕ → Release
@@ -95,6 +100,8 @@ pub record SoundState (s : State) : Type 0 where
   -- "a replenishment is 1 to P away, an arrival 1 to the larger of T and O"
   pub refills-away : (i : ℕ) → i < s .table .count → Within 1 (periodAt s i) (refillAway s i)
   pub arrivals-away : (i j : ℕ) → PeriodicTask s i j → Within 1 (largerAt s i j) (arrivalAway s i j)
+  -- "In a sound state a polling server with no pending work has budget 0." (document 02, #101)
+  pub polling : (i : ℕ) → i < s .table .count → serverAt s i .kind ≡ 3 → ((j : ℕ) → pendingAt s i j ≡ false) → budgetAt s i ≡ 0
 
 -- the tick serves task j of server i
 abbrev pub runsb : Choice → ℕ → ℕ → Bool
@@ -126,14 +133,15 @@ Chosen s Idle = (i : ℕ) → readyAt s i ≡ false
 Chosen s (Burning k) = Highest s k × WithoutWork s k
 Chosen s (Running k j) = Highest s k × FirstTask s k j
 
--- What a tick does to server i. "The server's budget and the chosen task's work fall by 1": where it is served; its replenishment comes 1 nearer
+-- What a tick does to server i. "The server's budget and the chosen task's work fall by 1": where it is served; its replenishment comes 1 nearer. A polling
+-- server that the tick leaves without work gives its budget up (document 02, #101)
 pub record Spent (s next : State) (i : ℕ) : Type 0 where
-  pub budget : budgetAt next i ≡ budgetAt s i - pick (servesb (choiceOf s) i) 1 0
+  pub budget : budgetAt next i ≡ pick (lapsesAt next i) 0 (budgetAt s i - pick (servesb (choiceOf s) i) 1 0)
   pub refill : refillAway next i ≡ refillAway s i - 1
 
--- "Due replenishments set the budget to C and are put in again P away."
+-- "Due replenishments set the budget to C and are put in again P away.", and a polling server that is left without work gives it up
 pub record Filled (s next : State) (i : ℕ) : Type 0 where
-  pub budget : budgetAt next i ≡ fullAt s i
+  pub budget : budgetAt next i ≡ pick (lapsesAt next i) 0 (fullAt s i)
   pub refill : refillAway next i ≡ periodAt s i
 
 -- how many events of a queue are 1 away, and of all servers' queues: those are "the events due in step 4"

@@ -1,9 +1,9 @@
 -- What the private functions give. No promise is stated by these: they stand between the code's loops and the definitions.
 use mathlib.Core.Path.{_≡_}
-use mathlib.Core.Bool.{Bool, true}
+use mathlib.Core.Bool.{Bool, true, false}
 use mathlib.Core.List.{List, [], _∷_}
 use Prim.Native.Nat.{ℕ, _≤_, _<_}
-use lib.Dec.{leb}
+use lib.Dec.{leb, ltb, eqb}
 use lib.ListN.{length, getD}
 use Rattle.refusal.specs.Small.{both}
 use Rattle.queue.specs.Limits.{maxGap, longest}
@@ -17,6 +17,7 @@ use Rattle.table.specs.Sound.{tasksb, tableb}
 use Rattle.table.specs.declared.Server.{Server}
 use Rattle.table.specs.declared.Table.{Table}
 use Rattle.scheduler.specs.State.{mostPending, taskAt}
+use Rattle.scheduler.specs.Polling.{lapsesb}
 use Rattle.scheduler.specs.Arrive.{withArrival}
 use Rattle.scheduler.specs.Tick.{dueIds, dueIn, again, taskDelay, arrivedLoads, served4}
 use Rattle.scheduler.specs.declared.Load.{Load}
@@ -82,6 +83,14 @@ withQueue q e = record { loads = e .loads; arrivals = q; budget = e .budget }
 -- step 4 for one server's queue: its entry after it, and how many of its events were due
 unfoldable pub servedTurn : Server → Entry → EntryTurn
 servedTurn s e = record { entry = served4 s e; handled = length (dueIn (e .arrivals)) }
+
+-- a polling server with no pending work, and with budget to give up
+abbrev pub givesUpb : ℕ → Entry → Bool
+givesUpb kind e = both (lapsesb kind e) (ltb 0 (e .budget .0))
+
+-- no server from place n on is polling; past the end there is none
+abbrev pub PolledBelow : List Server → ℕ → Type 0
+PolledBelow ss n = (i : ℕ) → n ≤ i → eqb (getD ss i zeroServer .kind) 3 ≡ false
 
 abbrev pub periodIn : Table → ℕ → ℕ
 periodIn t i = getD (t .servers) i zeroServer .period .0

@@ -1,6 +1,6 @@
 -- "A state is sound if: table values are in range; unused entries are zero; budgets are at most C; pending work is at most 1,000,000, lost counts at most
 -- 65,535; queues are each sound alone and hold exactly the replenishments and the periodic tasks' arrivals, each once; a replenishment is 1 to P away, an
--- arrival 1 to the larger of T and O."
+-- arrival 1 to the larger of T and O." And: "In a sound state a polling server with no pending work has budget 0." (document 02, #101)
 use mathlib.Core.Bool.{Bool, true, false}
 use mathlib.Core.List.{List, [], _∷_}
 use Prim.Native.Nat.{ℕ}
@@ -15,6 +15,7 @@ use Rattle.table.specs.declared.Release.the-variants.{OnArrival, Periodic}
 use Rattle.table.specs.declared.Task.{Task}
 use Rattle.table.specs.declared.Server.{Server}
 use Rattle.scheduler.specs.State.{mostPending, mostLost}
+use Rattle.scheduler.specs.Polling.{lapsesb}
 use Rattle.scheduler.specs.declared.Load.{Load}
 use Rattle.scheduler.specs.declared.Entry.{Entry}
 use Rattle.scheduler.specs.declared.State.{State}
@@ -46,13 +47,25 @@ entryb s e =
     both (leb (e .budget .0) (s .budget .0))
     (both (usedb loadb zeroLoadb (e .loads) (s .count)) (holdsb maxGap longest (taskReaches (s .tasks)) (e .arrivals)))
 
--- each entry with its server; for an unused one, whose server is zero, this says that it is zero too
+-- "a polling server with no pending work has budget 0"
+abbrev pub spentb : Server → Entry → Bool
+spentb s e = pick (lapsesb (s .kind) e) (eqb (e .budget .0) 0) true
+
+-- a test of each entry with its server
+abbrev pub eachb : (Server → Entry → Bool) → List Server → List Entry → Bool
+eachb p [] es = true
+eachb p (s ∷ ss) [] = true
+eachb p (s ∷ ss) (e ∷ es) = both (p s e) (eachb p ss es)
+
+-- for an unused entry, whose server is zero, this says that it is zero too
 abbrev pub entriesb : List Server → List Entry → Bool
-entriesb [] es = true
-entriesb (s ∷ ss) [] = true
-entriesb (s ∷ ss) (e ∷ es) = both (entryb s e) (entriesb ss es)
+entriesb ss es = eachb entryb ss es
+
+abbrev pub allSpentb : List Server → List Entry → Bool
+allSpentb ss es = eachb spentb ss es
 
 unfoldable pub stateb : State → Bool
 stateb s =
     both (tableb longest mostWork (s .table))
-    (both (entriesb (s .table .servers) (s .entries)) (holdsb maxGap longest (serverReaches (s .table .servers)) (s .refills)))
+    (both (entriesb (s .table .servers) (s .entries))
+    (both (holdsb maxGap longest (serverReaches (s .table .servers)) (s .refills)) (allSpentb (s .table .servers) (s .entries))))

@@ -1,4 +1,4 @@
--- One tick: document 01's four steps, in its order, over the queue's own definitions.
+-- One tick: document 01's four steps, in its order, over the queue's own definitions, and at the end what polling servers give up (document 02, #101).
 use mathlib.Core.Bool.{Bool, true, false, not}
 use mathlib.Core.List.{List, [], _∷_}
 use Prim.Native.Nat.{ℕ, _+_, _-_}
@@ -17,6 +17,7 @@ use Rattle.table.specs.Table.{served, periodOf}
 use Rattle.table.specs.declared.Server.{Server}
 use Rattle.scheduler.specs.State.{load, withBudget, serverAt, taskAt}
 use Rattle.scheduler.specs.Choice.{firstPending, chosenOf, choiceOf}
+use Rattle.scheduler.specs.Polling.{lapsed}
 use Rattle.scheduler.specs.Sound.{stateb}
 use Rattle.scheduler.specs.Arrive.{withArrival}
 use Rattle.scheduler.specs.declared.Load.{Load}
@@ -126,9 +127,14 @@ dueEvents (e ∷ es) = length (dueIn (e .arrivals)) + dueEvents es
 abbrev pub chargedEntries : State → List Entry
 chargedEntries s = alter charge (s .entries) (chosenOf s)
 
+-- the entries after step 4
+abbrev pub handledEntries : State → List Entry
+handledEntries s = eachEntry served4 (s .table .servers) (refilled (fullAt s) (dueIn (s .refills)) (chargedEntries s))
+
+-- "at the end of every tick after all events are handled" a polling server with no pending work gives its budget up (document 02, #101)
 unfoldable pub stateAfter : State → State
 stateAfter s = record {
-  entries = eachEntry served4 (s .table .servers) (refilled (fullAt s) (dueIn (s .refills)) (chargedEntries s));
+  entries = eachEntry lapsed (s .table .servers) (handledEntries s);
   table = s .table;
   refills = refillsTurn s;
 }

@@ -1,4 +1,4 @@
-// The scheduler of servers and their tasks: document 01, "Servers and tasks".
+// The scheduler of servers and their tasks: document 01, "Servers and tasks", and the polling servers of document 02, #101.
 use queue::Distance;
 use queue::Queue;
 use refusal::Refusal;
@@ -21,13 +21,14 @@ ghost use Rattle.table.specs.Limits.{mostWork, entries};
 ghost use Rattle.table.specs.Table.{releaseNumber, periodOf};
 ghost use Rattle.table.specs.Sound.{usedb, tableb};
 ghost use Rattle.scheduler.specs.State.{mostPending, zeroLoad, zeroEntry, withBudget};
-ghost use Rattle.scheduler.specs.Sound.{releaseReach, taskReaches, serverReaches, loadb, zeroLoadb, entryb, stateb};
+ghost use Rattle.scheduler.specs.Sound.{releaseReach, taskReaches, serverReaches, loadb, zeroLoadb, entryb, allSpentb, stateb};
 ghost use Rattle.scheduler.specs.Choice.{pendingb, firstPending, wantsb, readyb, chosenFrom, choiceBy};
+ghost use Rattle.scheduler.specs.Polling.{lapsed};
 ghost use Rattle.scheduler.specs.Arrive.{fitsb, loadAfter, arrivalBy, arrivedWith, arriveOf};
 ghost use Rattle.scheduler.specs.Tick.{charge, tickOf};
 ghost use Rattle.scheduler.specs.Run.{batchSize, answersOf, stateAfterTicks, batchWith, runOf};
 ghost use Rattle.scheduler.specs.Fresh.{firstAway, firstWork, freshLoad, serverAway, freshQueue, freshEntry, emptyState, freshOf};
-ghost use Rattle.scheduler.specs.Moves.{tabledb, Clocked, dueTurn, servedTurn, withQueue};
+ghost use Rattle.scheduler.specs.Moves.{tabledb, Clocked, dueTurn, servedTurn, withQueue, givesUpb, PolledBelow};
 ghost use Rattle.scheduler.specs.declared.Arrival.the-variants.{Accepted};
 
 // A task's pending work and its lost count.
@@ -131,7 +132,7 @@ pub fn fresh(t: Table) -> Made
     }
 }
 
-// One tick: the choice, the charge, and all queues clocked. It is the run of one.
+// One tick: the choice, the charge, all queues clocked, and what polling servers give up. It is the run of one.
 pub fn tick(s: State) -> Ticked
     ensures { λ r. ⌜ r ≡ tickOf s ⌝ }
 {
@@ -225,7 +226,10 @@ pub fn sound(s: State) -> bool
         }
         i = i + 1;
     }
-    queue::holds(s.refills, server_reaches(table))
+    if !queue::holds(s.refills, server_reaches(table)) {
+        return false;
+    }
+    all_spent(table, s.entries)
 }
 
 // THE TICK
@@ -251,6 +255,16 @@ fn first_pending(e: Entry) -> usize
     j
 }
 
+// Whether a server of this kind wants a tick where work is pending, and no other tick.
+fn serves_work(kind: u8) -> bool
+    ensures { λ r. ⌜ r ≡ pick (eqb kind 2) true (eqb kind 3) ⌝ }
+{
+    if kind == Server::DEFERRABLE {
+        return true;
+    }
+    kind == Server::POLLING
+}
+
 // Whether a server of this kind wants a tick.
 fn wants(kind: u8, e: Entry) -> bool
     ensures { λ r. ⌜ r ≡ wantsb kind e ⌝ }
@@ -258,10 +272,24 @@ fn wants(kind: u8, e: Entry) -> bool
     if kind == Server::IDLING {
         return true;
     }
-    if kind != Server::DEFERRABLE {
+    if !serves_work(kind) {
         return false;
     }
     first_pending(e) < Table::ENTRIES
+}
+
+// Whether a server of this kind has budget to give up: it is polling, and no work is pending.
+fn gives_up(kind: u8, e: Entry) -> bool
+    ensures { λ r. ⌜ r ≡ givesUpb kind e ⌝ }
+{
+    if kind != Server::POLLING {
+        return false;
+    }
+    let b = e.budget;
+    if b.0 == 0 {
+        return false;
+    }
+    Table::ENTRIES <= first_pending(e)
 }
 
 // Whether it wants a tick and has budget.
@@ -419,6 +447,32 @@ fn filled(e: Entry, budget: Served) -> Entry
     next
 }
 
+// The entry with its budget given up.
+fn given_up(e: Entry) -> Entry
+    ensures { λ r. ⌜ r ≡ withBudget 0 e ⌝ }
+{
+    let mut next = e;
+    let none = Served(0);
+    next.budget = none;
+    next
+}
+
+// How many entries a tick has to look at for budgets to give up: all where a server is polling, else none.
+fn polled_entries(t: Table) -> usize
+    requires { ⌜ tableb longest mostWork t ≡ true ⌝ }
+    ensures { λ r. ⌜ (r ≤ entries) × PolledBelow (t .servers) r ⌝ }
+{
+    let mut i: usize = 0;
+    while i < t.count {
+        let s = t.servers[i];
+        if s.kind == Server::POLLING {
+            return Table::ENTRIES;
+        }
+        i = i + 1;
+    }
+    0
+}
+
 // So many ticks of a state that is sound. The state's parts are locals, and a tick stores single entries: no tick copies the state.
 fn ticks(s: State, n: usize) -> Batch
     requires { ⌜ (stateb s ≡ true) × (n ≤ batchSize) ⌝ }
@@ -432,6 +486,7 @@ fn ticks(s: State, n: usize) -> Batch
     let table = s.table;
     let mut entries = s.entries;
     let mut refills = s.refills;
+    let polled = polled_entries(table);
     let mut k: usize = 0;
     while k < n {
         let c = chosen(table, entries);
@@ -478,6 +533,17 @@ fn ticks(s: State, n: usize) -> Batch
             choice: choice_of(c, j),
             handled: handled,
         };
+        let mut p: usize = 0;
+        while p < polled {
+            let v = table.servers[p];
+            if !gives_up(v.kind, entries[p]) {
+                p = p + 1;
+                continue;
+            }
+            let y = given_up(entries[p]);
+            entries[p] = y;
+            p = p + 1;
+        }
         k = k + 1;
     }
     let state = State {
@@ -560,6 +626,21 @@ fn entry_sound(s: Server, e: Entry) -> bool
         return false;
     }
     queue::holds(e.arrivals, task_reaches(s))
+}
+
+// Whether no server has budget to give up.
+fn all_spent(table: Table, entries: [Entry; Table::ENTRIES]) -> bool
+    ensures { λ r. ⌜ r ≡ allSpentb (table .servers) entries ⌝ }
+{
+    let mut i: usize = 0;
+    while i < Table::ENTRIES {
+        let s = table.servers[i];
+        if gives_up(s.kind, entries[i]) {
+            return false;
+        }
+        i = i + 1;
+    }
+    true
 }
 
 // The first n loads are in range, the others zero.
@@ -716,6 +797,16 @@ fn put_in(q: Queue, id: u8, away: Distance) -> Queue
     c.queue
 }
 
+// The entry with its budget given up, where it is a polling server's without work.
+fn lapse(s: Server, e: Entry) -> Entry
+    ensures { λ r. ⌜ r ≡ lapsed s e ⌝ }
+{
+    if gives_up(s.kind, e) {
+        return given_up(e);
+    }
+    e
+}
+
 fn fresh_entry(s: Server) -> Entry
     ensures { λ r. ⌜ r ≡ freshEntry s ⌝ }
 {
@@ -732,7 +823,7 @@ fn fresh_entry(s: Server) -> Entry
         e.arrivals = q;
         j = j + 1;
     }
-    e
+    lapse(s, e)
 }
 
 fn fresh_refills(t: Table) -> Queue

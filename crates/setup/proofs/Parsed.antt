@@ -234,7 +234,7 @@ head-passes D W k s bs i h = (
 -- what a head that passes says of the bytes
 record HeadPassed (D : ℕ) (bs : List ℕ) : Type 0 where
   whole : headSize ≤ length bs
-  kind : (byteOf 0 bs ≡ 1) ⊎ (byteOf 0 bs ≡ 2)
+  kind : (byteOf 0 bs ≡ 1) ⊎ ((byteOf 0 bs ≡ 2) ⊎ (byteOf 0 bs ≡ 3))
   count : byteOf 1 bs ≤ entries
   period : Within 1 D (fieldOf 4 (drop 2 bs))
   budget : Within 1 (fieldOf 4 (drop 2 bs)) (fieldOf 4 (drop 6 bs))
@@ -436,9 +436,10 @@ task-all-bytes t =
     let O = offsetOf (t .release) in
     (number-byte (t .release), bytes-append (big 4 (t .work .0)) (big 4 T ++ big 4 O) (big-bytes 4 (t .work .0)) (fields-bytes T O))
 
-kind-byte : (k : ℕ) → (k ≡ 1) ⊎ (k ≡ 2) → k < 256
+kind-byte : (k : ℕ) → (k ≡ 1) ⊎ ((k ≡ 2) ⊎ (k ≡ 3)) → k < 256
 kind-byte k (inl e) = omega arith
-kind-byte k (inr e) = omega arith
+kind-byte k (inr (inl e)) = omega arith
+kind-byte k (inr (inr e)) = omega arith
 
 server-all-bytes : (D W : ℕ) (s : Server) → Entry D W s → Bytes (serverBytes s)
 unfolding serverBytes headBytes

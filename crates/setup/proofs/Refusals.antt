@@ -104,7 +104,7 @@ module _ (D W : ℕ) (bs : List ℕ) where
   head-whole : (j : ℕ) → ltb (length (drop j bs)) headSize ≡ false ↔ HeadWhole bs j
   head-whole j = whole-test bs j headSize (omega arith)
 
-  -- "kind not 1 or 2"
+  -- "kind not 1 or 2"; "Setup code 6 now allows 3." (document 02, #101)
   pub setup-6 : (k : ℕ) → Refused D W bs serverKind k ↔ AtHead D W bs (λ j. (k ≡ j) × HeadWhole bs j × (¬ KindKnown bs j))
   unfolding headChecks taskChecks
   setup-6 k =

@@ -58,8 +58,9 @@ module _ (bs : List ℕ) (k : ℕ) where
   abbrev pub HeadWhole : Type 0
   HeadWhole = k + headSize ≤ length bs
 
+  -- "Setup code 6 now allows 3." (document 02, #101)
   abbrev pub KindKnown : Type 0
-  KindKnown = (byteOf k bs ≡ 1) ⊎ (byteOf k bs ≡ 2)
+  KindKnown = (byteOf k bs ≡ 1) ⊎ ((byteOf k bs ≡ 2) ⊎ (byteOf k bs ≡ 3))
 
   abbrev pub TasksFew : Type 0
   TasksFew = byteOf (k + 1) bs ≤ entries

@@ -29,16 +29,18 @@ range-within least most x = (
   λ w. rw (le-leb least x (w .low), le-leb x most (w .high)),
 )
 
-pub kind-known : (k : ℕ) → kindb k ≡ true ↔ ((k ≡ 1) ⊎ (k ≡ 2))
-kind-known k = (forth (eqb k 1) refl, back)
+pub kind-known : (k : ℕ) → kindb k ≡ true ↔ ((k ≡ 1) ⊎ ((k ≡ 2) ⊎ (k ≡ 3)))
+kind-known k = (forth (eqb k 1) (eqb k 2) refl refl, back)
   where
-    forth : (b : Bool) → eqb k 1 ≡ b → pick b true (eqb k 2) ≡ true → (k ≡ 1) ⊎ (k ≡ 2)
-    forth true p e = inl (eqb-true k 1 p)
-    forth false p e = inr (eqb-true k 2 e)
+    forth : (a b : Bool) → eqb k 1 ≡ a → eqb k 2 ≡ b → pick a true (pick b true (eqb k 3)) ≡ true → (k ≡ 1) ⊎ ((k ≡ 2) ⊎ (k ≡ 3))
+    forth true b p q h = inl (eqb-true k 1 p)
+    forth false true p q h = inr (inl (eqb-true k 2 q))
+    forth false false p q h = inr (inr (eqb-true k 3 h))
 
-    back : (k ≡ 1) ⊎ (k ≡ 2) → kindb k ≡ true
+    back : (k ≡ 1) ⊎ ((k ≡ 2) ⊎ (k ≡ 3)) → kindb k ≡ true
     back (inl e) = rw e
-    back (inr e) = rw e
+    back (inr (inl e)) = rw e
+    back (inr (inr e)) = rw e
 
 pub release-sound : (D : ℕ) (r : Release) → releaseb D r ≡ true ↔ SoundRelease D r
 release-sound D OnArrival = (λ e. tt, λ u. refl)

@@ -33,9 +33,10 @@ pub record SoundTask (D W : ℕ) (t : Task) : Type 0 where
   pub work : Within 1 W (t .work .0)
   pub release : SoundRelease D (t .release)
 
--- "A server has a kind, a period P (1 to 1,000,000), a budget C (1 to P) and 0 to 8 tasks"; "idling (kind 1), or deferrable (kind 2)"
+-- "A server has a kind, a period P (1 to 1,000,000), a budget C (1 to P) and 0 to 8 tasks"; "idling (kind 1), or deferrable (kind 2)". Kind 3 is
+-- polling: "Setup code 6 now allows 3." (document 02, #101)
 pub record SoundServer (D W : ℕ) (s : Server) : Type 0 where
-  pub kind : (s .kind ≡ 1) ⊎ (s .kind ≡ 2)
+  pub kind : (s .kind ≡ 1) ⊎ ((s .kind ≡ 2) ⊎ (s .kind ≡ 3))
   pub period : Within 1 D (s .period .0)
   pub budget : Within 1 (s .period .0) (s .budget .0)
   pub count : s .count ≤ entries

@@ -39,9 +39,9 @@ zeroTaskb t = both (eqb (t .work .0) 0) (arrivalb (t .release))
 abbrev pub tasksb : ℕ → ℕ → Server → Bool
 tasksb D W s = usedb (taskb D W) zeroTaskb (s .tasks) (s .count)
 
--- idling (kind 1) or deferrable (kind 2)
+-- idling (kind 1), deferrable (kind 2) or polling (kind 3): "Setup code 6 now allows 3." (document 02, #101)
 abbrev pub kindb : ℕ → Bool
-kindb k = pick (eqb k 1) true (eqb k 2)
+kindb k = pick (eqb k 1) true (pick (eqb k 2) true (eqb k 3))
 
 -- "a kind, a period P (1 to 1,000,000), a budget C (1 to P) and 0 to 8 tasks"
 abbrev pub serverb : ℕ → ℕ → Server → Bool

@@ -1,4 +1,5 @@
-// The table of servers and tasks that a setup gives: document 01, "Servers and tasks". Rank is the place in the table, 0 the highest.
+// The table of servers and tasks that a setup gives: document 01, "Servers and tasks"; polling servers are document 02, #101. Rank is the place in the table,
+// 0 the highest.
 use queue::Distance;
 use queue::Queue;
 ghost use mathlib.Core.Path.{_≡_};
@@ -59,6 +60,8 @@ impl Server {
     pub const IDLING: u8 = 1;
 
     pub const DEFERRABLE: u8 = 2;
+
+    pub const POLLING: u8 = 3;
 
     pub fn zero() -> Server
         ensures { λ r. ⌜ r ≡ zeroServer ⌝ }
@@ -134,14 +137,17 @@ pub fn server_sound(s: Server) -> bool
     tasks_sound(s)
 }
 
-// Kind 1 is idling, kind 2 deferrable.
+// Kind 1 is idling, kind 2 deferrable, kind 3 polling: "Setup code 6 now allows 3." (document 02, #101)
 pub fn known_kind(kind: u8) -> bool
     ensures { λ r. ⌜ r ≡ kindb kind ⌝ }
 {
     if kind == Server::IDLING {
         return true;
     }
-    kind == Server::DEFERRABLE
+    if kind == Server::DEFERRABLE {
+        return true;
+    }
+    kind == Server::POLLING
 }
 
 pub fn in_range(x: u32, least: u32, most: u32) -> bool

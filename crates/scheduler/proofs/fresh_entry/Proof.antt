@@ -6,6 +6,7 @@ use native.Mathlib.Omega.{arith}
 use borrow.Author.Needs.{needs}
 use lib.ListN.{length, drop, length-map, length-set}
 use Rattle.table.specs.Limits.{entries}
+use Rattle.scheduler.specs.Polling.{lapsed}
 use Rattle.scheduler.specs.Fresh.{putIn, freshQueue, taskAway, freshLoad, freshEntry}
 use Rattle.scheduler.proofs.Freshly.{put-step, put-end, Filled, filled-step, filled-end, loads-made}
 use Rattle.scheduler.proofs.fresh_entry.Statement.{statement}
@@ -73,16 +74,19 @@ loop-again c =
       l .loop .inv .4,
     )
 
+lapse-requires : tie.Need-lapse-requires Inv-loop μ-loop
+lapse-requires c κs = search needs
+
 returns : tie.Need-returns Inv-loop μ-loop
 unfolding freshEntry
 returns c =
-    let l = c .before in
+    let l = c .before .before in
     let s = l .before .before .before in
     let ts = s .args .t1 .tasks in
     let h = full s in
     let loads = filled-end freshLoad ts (l .loop .j) (l .loop .e .loads) (l .loop .inv .2) (omega arith) (omega arith) ∙ loads-made ts in
     let arrivals = put-end taskAway ts (l .loop .j) (l .loop .e .arrivals) (l .loop .inv .3) (omega arith) in
-    λ i. record { loads = loads i; arrivals = arrivals i; budget = l .loop .inv .4 i }
+    c .lapse .ensures ∙ (λ i. lapsed (s .args .t1) record { loads = loads i; arrivals = arrivals i; budget = l .loop .inv .4 i })
 
 pub fresh-entry-spec : {M : Type 1} → statement M
 fresh-entry-spec =
@@ -103,4 +107,5 @@ fresh-entry-spec =
     add-j
     loop-less
     loop-again
+    lapse-requires
     returns)

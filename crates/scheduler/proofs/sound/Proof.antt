@@ -6,12 +6,13 @@ use native.Mathlib.Omega.{arith}
 use borrow.Author.Needs.{needs}
 use borrow.Author.Tests.{not-true, not-false}
 use lib.ListN.{drop}
-use Rattle.queue.specs.Limits.{longest}
+use Rattle.queue.specs.Limits.{maxGap, longest}
+use Rattle.queue.specs.Holds.{holdsb}
 use Rattle.table.specs.Limits.{entries, mostWork}
 use Rattle.table.specs.Sound.{tableb}
-use Rattle.scheduler.specs.Sound.{entriesb, stateb}
+use Rattle.scheduler.specs.Sound.{serverReaches, entryb, entriesb, stateb}
 use Rattle.scheduler.proofs.Lists.{pastServer, pastEntry}
-use Rattle.scheduler.proofs.Stated.{Eight, entries-stop, entries-go, entries-end}
+use Rattle.scheduler.proofs.Stated.{Eight, paired-stop, paired-go, paired-end}
 use Rattle.scheduler.proofs.Sizes.{state-eight}
 use Rattle.scheduler.proofs.sound.Statement.{statement}
 use Rattle.scheduler.proofs.sound.Tie as tie
@@ -63,7 +64,7 @@ returns-2 c =
     let s = l .before .before .before .before .args .t1 in
     let z = eight (l .before .before .before .before) in
     let e : entriesb (s .table .servers) (s .entries) ≡ false =
-    entries-stop (s .table .servers) (s .entries) (omega arith) (l .loop .i) pastServer pastEntry (l .loop .inv .1) (omega arith) (sym (k .ensures) ∙ not-true (k .result) (c .if2 .taken)) in
+    paired-stop entryb (s .table .servers) (s .entries) (omega arith) (l .loop .i) pastServer pastEntry (l .loop .inv .1) (omega arith) (sym (k .ensures) ∙ not-true (k .result) (c .if2 .taken)) in
     rw (table-sound (l .before), e)
 
 add-i : tie.Need-add-i Inv-loop μ-loop
@@ -78,7 +79,7 @@ loop-again c =
     let l = c .before .before .before .before .before in
     let s = l .before .before .before .before .args .t1 in
     let z = eight (l .before .before .before .before) in
-    (omega arith, entries-go (s .table .servers) (s .entries) (omega arith) (l .loop .i) pastServer pastEntry (l .loop .inv .1) (omega arith) (sym (k .ensures) ∙ not-false (k .result) (c .if2 .left)))
+    (omega arith, paired-go entryb (s .table .servers) (s .entries) (omega arith) (l .loop .i) pastServer pastEntry (l .loop .inv .1) (omega arith) (sym (k .ensures) ∙ not-false (k .result) (c .if2 .left)))
 
 server-reaches-requires : tie.Need-server-reaches-requires Inv-loop μ-loop
 server-reaches-requires c κs = search needs
@@ -86,15 +87,36 @@ server-reaches-requires c κs = search needs
 holds-requires : tie.Need-holds-requires Inv-loop μ-loop
 holds-requires c κs = search needs
 
+-- where all entries have passed
+entries-sound : (c : tie.After-loop Inv-loop μ-loop) → let s = c .before .before .before .before .before .args .t1 in entriesb (s .table .servers) (s .entries) ≡ true
+entries-sound c =
+    let l = c .before in
+    let s = l .before .before .before .before .args .t1 in
+    let z = eight (l .before .before .before .before) in
+    paired-end entryb (s .table .servers) (s .entries) (omega arith) (l .loop .i) pastServer pastEntry (l .loop .inv .1) (omega arith)
+
+-- what the queue of replenishments is asked
+held : (c : tie.After-holds Inv-loop μ-loop) → let s = c .before .before .before .before .before .before .before .before .args .t1 in
+    holdsb maxGap longest (serverReaches (s .table .servers)) (s .refills) ≡ c .holds .result
+held c = rw (← c .before .server-reaches .ensures) (sym (c .holds .ensures))
+
 returns-3 : tie.Need-returns-3 Inv-loop μ-loop
 unfolding stateb
 returns-3 c =
-    let l = c .before .before .before .before in
-    let s = l .before .before .before .before .args .t1 in
-    let z = eight (l .before .before .before .before) in
-    let e : entriesb (s .table .servers) (s .entries) ≡ true =
-    entries-end (s .table .servers) (s .entries) (omega arith) (l .loop .i) pastServer pastEntry (l .loop .inv .1) (omega arith) in
-    rw (table-sound (l .before), e, ← c .before .server-reaches .ensures) (c .holds .ensures)
+    let h = c .before in
+    let l = h .before .before .before in
+    rw (table-sound (l .before .before), entries-sound l, held h, not-true (h .holds .result) (c .if3 .taken))
+
+all-spent-requires : tie.Need-all-spent-requires Inv-loop μ-loop
+all-spent-requires c κs = search needs
+
+returns-4 : tie.Need-returns-4 Inv-loop μ-loop
+unfolding stateb
+returns-4 c =
+    let f = c .before .before in
+    let h = f .before in
+    let l = h .before .before .before in
+    rw (table-sound (l .before .before), entries-sound l, held h, not-false (h .holds .result) (f .if3 .left)) (c .all-spent .ensures)
 
 pub sound-spec : {M : Type 1} → statement M
 sound-spec =
@@ -116,4 +138,6 @@ sound-spec =
     loop-again
     server-reaches-requires
     holds-requires
-    returns-3)
+    returns-3
+    all-spent-requires
+    returns-4)

@@ -1,0 +1,21 @@
+-- Polling servers (kind 3): document 02, #101. "Kind 3 wants a tick as kind 2 does" (`wantsb`); here is what it gives up.
+use mathlib.Core.Bool.{Bool, true, false, not}
+use Prim.Native.Nat.{ℕ}
+use lib.Dec.{eqb}
+use Rattle.refusal.specs.Small.{pick, both}
+use Rattle.table.specs.declared.Server.{Server}
+use Rattle.scheduler.specs.State.{withBudget}
+use Rattle.scheduler.specs.Choice.{somePending}
+use Rattle.scheduler.specs.declared.Entry.{Entry}
+
+-- polling is kind 3
+abbrev pub pollsb : ℕ → Bool
+pollsb kind = eqb kind 3
+
+-- "a polling server with no pending work"
+abbrev pub lapsesb : ℕ → Entry → Bool
+lapsesb kind e = both (pollsb kind) (not (somePending (e .loads)))
+
+-- "has its budget set to 0 until its next refill": at setup, and at the end of every tick
+unfoldable pub lapsed : Server → Entry → Entry
+lapsed s e = pick (lapsesb (s .kind) e) (withBudget 0 e) e

@@ -36,6 +36,10 @@ def deferrable(P, C, *tasks):
     return 2, P, C, tasks
 
 
+def polling(P, C, *tasks):
+    return 3, P, C, tasks
+
+
 def task_bytes(task):
     release, E, T, O = task
     return big(release, 1) + big(E, 4) + big(T, 4) + big(O, 4)
@@ -81,6 +85,13 @@ MIXED = [
     idling(100_000, 40, on_arrival(400_000), periodic(3, 20, 1)),
 ]
 NO_TASKS = [idling(7, 3), deferrable(3, 1)]
+# A polling server below a deferrable and above an idling one, whose work ends in most periods; and one that gives up its only budget at the start.
+POLLED = [
+    deferrable(12, 3, on_arrival(2), periodic(1, 9, 4)),
+    polling(8, 3, periodic(2, 11), on_arrival(1)),
+    idling(20, 6, periodic(4, 25)),
+    polling(70_000, 9, periodic(5, 30, 7)),
+]
 
 
 def full_task(i, j):

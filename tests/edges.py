@@ -1,11 +1,11 @@
-"""The model held to document 01: the worked example, every point on the edge, and each refusal and each rule of soundness at least once.
+"""The model held to documents 01 and 02: the worked example, every point on the edge, and each refusal and each rule of soundness at least once.
 
-What is due here was worked out from the document by hand."""
+What is due here was worked out from the documents by hand."""
 import sys
 
 import cases
 import model
-from model import DEFERRABLE, EMPTY, FILLER, IDLING, NONE, ON_ARRIVAL, PERIODIC, Message, Refusal, Row, Server, Table, Task
+from model import DEFERRABLE, EMPTY, FILLER, IDLING, NONE, ON_ARRIVAL, PERIODIC, POLLING, Message, Refusal, Row, Server, Table, Task
 
 F = FILLER
 FULL = 65_535
@@ -35,6 +35,8 @@ def table(*servers):
 
 
 WORKED_TABLE = table(server(DEFERRABLE, 4, 2, Task(ON_ARRIVAL, 3, 0, 0)), server(IDLING, 5, 2, Task(PERIODIC, 1, 5, 0)))
+# The same with server 0 polling.
+POLLED_TABLE = table(server(POLLING, 4, 2, Task(ON_ARRIVAL, 3, 0, 0)), server(IDLING, 5, 2, Task(PERIODIC, 1, 5, 0)))
 
 
 TOP_TABLE = table(*[server(IDLING, 1_000_000, 1_000_000, *[Task(PERIODIC, 1_000_000, 1_000_000, 1_000_000)] * 8)] * 8)
@@ -151,6 +153,8 @@ def setup_points():
     buffer = bytes(range(60))
     found = [
         *same("the worked setup read", model.read_setup(WORKED), (NONE, WORKED_TABLE)),
+        *same("the worked setup with server 0 polling", model.read_setup(put(4, 3)), (NONE, POLLED_TABLE)),
+        *same("and written", model.write_setup(POLLED_TABLE, bytes(50)), (NONE, 50, put(4, 3))),
         *same("the worked setup written", model.write_setup(WORKED_TABLE, buffer), (NONE, 50, WORKED + buffer[50:])),
         *same("the worked setup written to the full", model.write_setup(WORKED_TABLE, bytes(50)), (NONE, 50, WORKED)),
         *refusal("32, setup", model.write_setup(WORKED_TABLE, bytes(49)), 32, 0, bytes(49)),
@@ -173,12 +177,12 @@ def refused_setups():
         ("1, no byte", b"", 1, 0), ("1, three bytes", WORKED[:3], 1, 0), ("2, short", WORKED[:49], 2, 0), ("2, long", WORKED + b"\0", 2, 0),
         ("3", put(2, 2), 3, 2), ("4, none", put(3, 0), 4, 3), ("4, nine", put(3, 9), 4, 3),
         ("5, a server", put(1, 36)[:36], 5, 27), ("5, a task", put(1, 49)[:49], 5, 37), ("5, a third server", put(3, 3), 5, 50),
-        ("6", put(27, 3), 6, 27), ("7", put(28, 9), 7, 28), ("8, 0", put(29, 0, 0, 0, 0), 8, 29),
+        ("6, 4", put(27, 4), 6, 27), ("6, 0", put(4, 0), 6, 4), ("6, 255", put(27, 255), 6, 27), ("7", put(28, 9), 7, 28), ("8, 0", put(29, 0, 0, 0, 0), 8, 29),
         ("8, 1,000,001", put(29, 0, 0x0F, 0x42, 0x41), 8, 29), ("9, 0", put(36, 0), 9, 33), ("9, above P", put(36, 6), 9, 33), ("10", put(37, 2), 10, 37),
         ("11, 0", put(41, 0), 11, 38), ("11, 1,000,001", put(38, 0, 0x0F, 0x42, 0x41), 11, 38), ("12, T 0", put(45, 0), 12, 42),
         ("12, O 1,000,001", put(46, 0, 0x0F, 0x42, 0x41), 12, 46), ("12, T on arrival", put(22, 1), 12, 19), ("12, O on arrival", put(26, 1), 12, 23),
         ("13", put(1, 51) + b"\0", 13, 50), ("13, one server less", put(3, 1), 13, 27), ("records in file order", put(22, 1)[:27] + put(27, 9)[27:], 12, 19),
-        ("6 before 7", put(27, 3, 9), 6, 27), ("7 before 8", put(28, 9, 0, 0, 0, 0), 7, 28), ("8 before 9", put(29, 0, 0, 0, 0, 0, 0, 0, 0), 8, 29),
+        ("6 before 7", put(27, 4, 9), 6, 27), ("7 before 8", put(28, 9, 0, 0, 0, 0), 7, 28), ("8 before 9", put(29, 0, 0, 0, 0, 0, 0, 0, 0), 8, 29),
         ("10 before 11", put(37, 2, 0, 0, 0, 0), 10, 37), ("11 before 12", put(41, 0, 0, 0, 0, 0), 11, 38), ("T before O", put(45, 0, 1, 0, 0, 0), 12, 42),
     ]
 
@@ -193,7 +197,9 @@ def unsound_tables():
         "a task past the count": table(good._replace(tasks=(task, task) + (model.ZERO_TASK,) * 6)),
         "nine tasks": table(good._replace(count=9, tasks=(task,) * 8)),
     }
-    for name, change in (("kind", {"kind": 0}), ("kind 3", {"kind": 3}), ("P 0", {"P": 0}), ("P", {"P": 1_000_001}), ("C 0", {"C": 0}), ("C", {"C": 5})):
+    for kind in (0, 4, 255):
+        bad[f"kind {kind}"] = table(good._replace(kind=kind))
+    for name, change in (("P 0", {"P": 0}), ("P", {"P": 1_000_001}), ("C 0", {"C": 0}), ("C", {"C": 5})):
         bad[name] = table(good._replace(**change))
     for name, change in (("E 0", {"E": 0}), ("E", {"E": 1_000_001}), ("release", {"release": 2}), ("T on arrival", {"T": 1}), ("O on arrival", {"O": 1})):
         bad[name] = table(server(IDLING, 4, 2, task._replace(**change)))
@@ -262,7 +268,27 @@ def unsound_states():
         "an arrival beyond T and O": {"arrivals": changed(good.arrivals, 1, row((0, 6)))},
         "an arrival of an unused server": {"arrivals": changed(good.arrivals, 2, row((0, 1)))},
     }
+    # server 0 of POLLED_TABLE has no work in its fresh state, and nor has a server without tasks
+    bad["polling, no work, budget 1"] = state_of(POLLED_TABLE, budgets=[1, 2] + [0] * 6)
+    bad["polling, no work, budget C"] = state_of(POLLED_TABLE, budgets=[2, 2] + [0] * 6)
+    bad["polling, no task, budget 1"] = state_of(table(server(IDLING, 5, 2), server(POLLING, 4, 2)), budgets=[2, 1] + [0] * 6)
+    bad["polling, work, budget above C"] = state_of(POLLED_TABLE, budgets=[3, 2] + [0] * 6, work=changed(good.work, 0, [3] + [0] * 7))
     return bad | {name: state_of(WORKED_TABLE, **change) for name, change in changes.items()}
+
+
+def sound_polling():
+    """States with a polling server that are sound: the rule is about budgets without work alone."""
+    work = changed(model.fresh(POLLED_TABLE)[1].work, 0, [1] + [0] * 7)
+    last = table(server(POLLING, 4, 2, *[Task(ON_ARRIVAL, 1, 0, 0)] * 8))
+    return {
+        "polling, no work, budget 0": state_of(POLLED_TABLE, budgets=[0, 2] + [0] * 6),
+        "polling, work, budget 0": state_of(POLLED_TABLE, budgets=[0, 2] + [0] * 6, work=work),
+        "polling, work, budget 1": state_of(POLLED_TABLE, budgets=[1, 2] + [0] * 6, work=work),
+        "polling, work, budget C": state_of(POLLED_TABLE, budgets=[2, 2] + [0] * 6, work=work),
+        "polling, work in the last task alone, budget C": state_of(last, budgets=[2] + [0] * 7, work=[[0] * 7 + [1]] + [[0] * 8] * 7),
+        "deferrable, no work, budget 1": state_of(WORKED_TABLE, budgets=[1, 2] + [0] * 6),
+        "idling, no work, budget 1": state_of(POLLED_TABLE, budgets=[0, 1] + [0] * 6, work=[[0] * 8] * 8),
+    }
 
 
 def state_soundness():
@@ -273,6 +299,8 @@ def state_soundness():
         found += refusal(f"arrive: {name}", model.arrive(bad, 9, 9), 31, bad, False)
     found += same("sound: full lost counts", model.sound_state(state_of(WORKED_TABLE, lost=[[65_535] + [0] * 7] * 2 + [[0] * 8] * 6)), True)
     found += same("sound: full work", model.sound_state(state_of(WORKED_TABLE, work=[[1_000_000] + [0] * 7] * 2 + [[0] * 8] * 6)), True)
+    for name, good in sound_polling().items():
+        found += same(f"sound: {name}", (model.sound_state(good), model.tick(good)[0], model.arrive(good, 0, 0)[0]), (True, NONE, NONE))
     late = table(server(IDLING, 1, 1, Task(PERIODIC, 1, 5, 9)))
     found += same("sound: an arrival up to O away", model.sound_state(model.fresh(late)[1]), True)
     return found
@@ -351,6 +379,61 @@ def readings():
     ]
 
 
+def behind(one_table, *steps):
+    """What the fresh state and each tick show: the fresh budgets, and a row (server, task, handled, budgets..) for each tick. A step is a number of ticks, or
+    an arrival (server, task), which must be accepted and leave the budgets as they are."""
+    state, rows = model.fresh(one_table)[1], []
+    fresh = state.budgets[:one_table.count]
+    for step in steps:
+        if isinstance(step, tuple):
+            before = list(state.budgets)
+            refusal, state, lost = model.arrive(state, *step)
+            rows += [] if (refusal, lost, state.budgets) == (NONE, False, before) else [f"an arrival: {refusal}, {lost}, {state.budgets}"]
+            continue
+        for _ in range(step):
+            refusal, state, answer = model.tick(state)
+            rows.append(refusal if refusal.number else (*answer, *state.budgets[:one_table.count]))
+    return fresh, rows
+
+
+def polling_points():
+    """Document 02's polling servers. A row is a tick: its server and task, the events handled, and the budgets behind it."""
+    idle = (None, None, 0, 0)
+    at_once, later = (table(server(POLLING, 4, 2, Task(PERIODIC, 1, 4, O))) for O in (0, 4))
+    long, short = table(server(POLLING, 5, 3, Task(ON_ARRIVAL, 2, 0, 0))), table(server(POLLING, 4, 2, Task(ON_ARRIVAL, 1, 0, 0)))
+    below = table(server(DEFERRABLE, 6, 2, Task(ON_ARRIVAL, 1, 0, 0)), server(POLLING, 3, 2, Task(ON_ARRIVAL, 2, 0, 0)), server(IDLING, 9, 9))
+    two = table(server(POLLING, 4, 3, Task(PERIODIC, 1, 8, 0), Task(ON_ARRIVAL, 1, 0, 0)))
+    busy = table(server(POLLING, 6, 4, Task(PERIODIC, 2, 2, 0)))
+    return [
+        # the work that arrives waits for the refill on tick 3; on tick 7 a tick of it is left, so the next refill stays
+        *same("A: the worked example", behind(POLLED_TABLE, (0, 0), 8), ([0, 2], [
+            (1, 0, 0, 0, 1), (1, None, 0, 0, 0), (None, None, 0, 0, 0), (None, None, 1, 2, 0),
+            (0, 0, 2, 1, 2), (0, 0, 0, 0, 2), (1, 0, 0, 0, 1), (1, None, 1, 2, 0)])),
+        # fresh work counts; behind tick 0 none is left; tick 3 refills and brings work
+        *same("B: O 0", behind(at_once, 5), ([2], [(0, 0, 0, 0), idle, idle, (None, None, 2, 2), (0, 0, 0, 0)])),
+        # no fresh work; refill and arrival on tick 3: work is there, so the budget stays
+        *same("C: O 4", behind(later, 5), ([0], [idle, idle, idle, (None, None, 2, 2), (0, 0, 0, 0)])),
+        # the arrival behind tick 1 waits for the refill; on tick 6 the work ends with a tick of budget left; tick 9 refills without work
+        *same("D: an arrival at a lapsed server", behind(long, 2, (0, 0), 8), ([0], [
+            idle, idle, idle, idle, (None, None, 1, 3), (0, 0, 0, 2), (0, 0, 0, 0), idle, idle, (None, None, 1, 0)])),
+        # on tick 4 the work ends; that of the next arrival waits for the refill on tick 7
+        *same("E: work ends, then an arrival", behind(short, 3, (0, 0), 2, (0, 0), 3), ([0], [
+            idle, idle, idle, (None, None, 1, 2), (0, 0, 0, 0), idle, idle, (None, None, 1, 2)])),
+        # so period 1, ticks 4 to 7, runs 1 tick of the 2 that W 0 leaves it: its work was not pending at the end of tick 4
+        *same("E: what it would be sure of", (model.W(short, 0), model.least(short, 0)), (0, 2)),
+        # the deferrable server keeps its budget without work, the polling one below it does not, and the idling one gains and burns
+        *same("F: below a deferrable and above an idling server", behind(below, 1, (0, 0), (1, 0), 6), ([2, 0, 9], [
+            (2, None, 0, 2, 0, 8), (0, 0, 0, 1, 0, 8), (2, None, 1, 1, 2, 7),
+            (1, 0, 0, 1, 1, 7), (1, 0, 0, 1, 0, 7), (2, None, 2, 2, 0, 6), (2, None, 0, 2, 0, 5)])),
+        # work of another task holds the budget, and its end lets it go; tick 3 refills without work, tick 7 with
+        *same("G: two tasks", behind(two, (0, 1), 8), ([3], [
+            (0, 0, 0, 2), (0, 1, 0, 0), idle, (None, None, 1, 0), idle, idle, idle, (None, None, 2, 3)])),
+        # tick 1 ends the work and brings more, with no refill: the budget that is left stays
+        *same("H: work ends where more arrives", behind(busy, 6), ([4], [
+            (0, 0, 0, 3), (0, 0, 1, 2), (0, 0, 0, 1), (0, 0, 1, 0), idle, (None, None, 2, 4)])),
+    ]
+
+
 def lines_of(setup, count):
     """A trace's tick lines from tick calls on rows, each of which looks whether the state is sound."""
     answers = ticks(model.fresh(model.read_setup(setup)[1])[1], count)[0]
@@ -359,7 +442,7 @@ def lines_of(setup, count):
 
 def calls_and_trace():
     found = []
-    for name, servers in (("worked", cases.WORKED), ("mixed", cases.MIXED), ("full", cases.FULL)):
+    for name, servers in (("worked", cases.WORKED), ("mixed", cases.MIXED), ("full", cases.FULL), ("polled", cases.POLLED)):
         setup = cases.setup(servers)
         found += same(f"{name}: tick calls and trace", lines_of(setup, 150), model.trace(setup + cases.run(150)).decode().split("\n")[1:-2])
     return found
@@ -368,8 +451,11 @@ def calls_and_trace():
 def trace_points():
     idle = bytes.fromhex("000e 01 01 01 00 00000002 00000002")
     head = b"tick server task\n"
+    polled = put(4, 3) + WORKED_INPUT[50:]
     return [
         *same("the worked example", model.trace(WORKED_INPUT), WORKED_OUTPUT),
+        *same("the worked example, polling", model.trace(polled), head + b"0 1 0\n1 1 -\n2 - -\n3 - -\n4 0 0\n5 0 0\n6 1 0\n7 1 -\nend 8\n"),
+        *same("kind 4", model.trace(put(27, 4) + WORKED_INPUT[50:]), head + b"refused 6 at 27\n"),
         *same("no input", model.trace(b""), head + b"refused 1 at 0\n"),
         *same("one byte", model.trace(b"\0"), head + b"refused 1 at 0\n"),
         *same("a length of 0", model.trace(bytes(2) + WORKED_INPUT[2:]), head + b"refused 1 at 0\n"),
@@ -386,7 +472,7 @@ def trace_points():
 
 
 GROUPS = (queue_points, queue_refusals, queue_soundness, setup_points, table_soundness, message_points, state_soundness, scheduler_points, lost_stops)
-GROUPS += (readings, calls_and_trace, trace_points)
+GROUPS += (readings, polling_points, calls_and_trace, trace_points)
 
 
 def faults():
@@ -396,5 +482,5 @@ def faults():
 
 if __name__ == "__main__":
     wrong = faults()
-    print("\n".join(wrong) or "the model and document 01's points agree")
+    print("\n".join(wrong) or "the model and the documents' points agree")
     sys.exit(1 if wrong else 0)

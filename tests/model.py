@@ -1,4 +1,4 @@
-"""Document 01 as a model: slow, obvious and written from the document's sentences alone. Tests hold programs to it.
+"""Document 01 as a model, with what document 02 changes (#101): slow, obvious and written from the documents' sentences alone. Tests hold programs to it.
 
 By its meaning a queue is the list of its events in queue order, each (id, distance). A row is what a program holds: 32 cells (id, gap) and how many of them are
 used. A call on a row, a table or a state answers a refusal first, NONE where it is not refused; a refused call hands back what was handed in."""
@@ -190,7 +190,7 @@ def push_back(row):
 # SERVERS AND TASKS
 
 ENTRIES = 8
-IDLING, DEFERRABLE = 1, 2
+IDLING, DEFERRABLE, POLLING = KINDS = 1, 2, 3
 ON_ARRIVAL, PERIODIC = 0, 1
 
 Task = namedtuple("Task", "release E T O")
@@ -218,7 +218,7 @@ def sound_task(task):
 
 def sound_server(server):
     """"A server has a kind, a period P (1 to 1,000,000), a budget C (1 to P) and 0 to 8 tasks"."""
-    return (server.kind in (IDLING, DEFERRABLE) and 0 <= server.count <= ENTRIES and 1 <= server.P <= LONGEST and 1 <= server.C <= server.P
+    return (server.kind in KINDS and 0 <= server.count <= ENTRIES and 1 <= server.P <= LONGEST and 1 <= server.C <= server.P
             and all(sound_task(task) for task in server.tasks[:server.count]) and all(task == ZERO_TASK for task in server.tasks[server.count:]))
 
 
@@ -235,7 +235,9 @@ def W(table, i):
 
 
 def least(table, i):
-    """What a server is sure of in a period, if it wants every tick on which it has budget. "where W is P or more, the least amount says nothing"."""
+    """What a server is sure of in a period, if it wants every tick on which it has budget; a polling server, "if work is pending at the end of the tick before
+    the period (in the fresh state, for a period that begins at tick 0) and at the end of each of its ticks but the last". "where W is P or more, the least
+    amount says nothing"."""
     server = table.servers[i]
     return None if W(table, i) >= server.P else min(server.C, server.P - W(table, i))
 
@@ -272,10 +274,10 @@ def setup_checks(given):
 
 
 def server_checks(given, at):
-    """A place is "the record's start for 5", "else the field's first byte"."""
+    """A place is "the record's start for 5", "else the field's first byte". "Setup code 6 now allows 3"."""
     P, C = number(given, at + 2, 4), number(given, at + 6, 4)
     yield at + SERVER_RECORD > len(given), 5, at
-    yield given[at] not in (IDLING, DEFERRABLE), 6, at
+    yield given[at] not in KINDS, 6, at
     yield given[at + 1] > ENTRIES, 7, at + 1
     yield not 1 <= P <= LONGEST, 8, at + 2
     yield not 1 <= C <= P, 9, at + 6
@@ -439,19 +441,28 @@ def fresh_replenishments(table):
     return events
 
 
+def lapse(state):
+    """"a polling server with no pending work has its budget set to 0 until its next refill"."""
+    for i in range(state.table.count):
+        if state.table.servers[i].kind == POLLING and not any(state.work[i]):
+            state.budgets[i] = 0
+
+
 def fresh_state(table):
-    """"Fresh state: each budget is C"."""
-    return State(
+    """"Fresh state: each budget is C", but for what lapses "at setup"."""
+    state = State(
         table=table,
         budgets=[server.C for server in table.servers],
         work=[[fresh_work(task) for task in server.tasks] for server in table.servers],
         lost=[[0] * ENTRIES for _ in table.servers],
         replenishments=fresh_replenishments(table),
         arrivals=[fresh_arrivals(server) for server in table.servers])
+    lapse(state)
+    return state
 
 
 def wants(state, i):
-    """"A server wants a tick if it is idling (kind 1), or deferrable (kind 2) with work pending in some task"."""
+    """"A server wants a tick if it is idling (kind 1), or deferrable (kind 2) with work pending in some task". "Kind 3 wants a tick as kind 2 does"."""
     return state.table.servers[i].kind == IDLING or any(state.work[i])
 
 
@@ -532,6 +543,7 @@ def one_tick(state):
     handled = replenish(state)
     for rank in range(state.table.count):
         handled += release(state, rank)
+    lapse(state)  # "at the end of every tick after all events are handled"
     return Answer(i, j, handled)
 
 
@@ -582,10 +594,15 @@ def sound_load(task, work, lost):
     return (work, lost) == (0, 0) if task == ZERO_TASK else 0 <= work <= MOST_WORK and 0 <= lost <= MOST_LOST
 
 
+def most_budget(server, work):
+    """"budgets are at most C". "In a sound state a polling server with no pending work has budget 0"."""
+    return 0 if server.kind == POLLING and not any(work) else server.C
+
+
 def sound_entry(server, budget, work, lost, row):
-    """One server's part of a sound state. "budgets are at most C"; an unused entry has C 0 and tasks of zero, so all its parts are zero."""
+    """One server's part of a sound state. An unused entry has C 0 and tasks of zero, so all its parts are zero."""
     loads = all(sound_load(server.tasks[j], work[j], lost[j]) for j in range(ENTRIES))
-    return 0 <= budget <= server.C and loads and holds_each_once(row, reach_of_arrivals(server))
+    return 0 <= budget <= most_budget(server, work) and loads and holds_each_once(row, reach_of_arrivals(server))
 
 
 def sound_state(state):

@@ -102,8 +102,8 @@ def full_task(i, j):
 
 
 def full_server(i):
-    """The last two servers have periods above the largest gap."""
-    make = deferrable if i % 2 else idling
+    """All kinds in turn. The last two servers have periods above the largest gap."""
+    make = (idling, deferrable, polling)[i % 3]
     return make(10 + 7 * i if i < 6 else 60_000 + 9_000 * i, 1 + i, *(full_task(i, j) for j in range(8)))
 
 
@@ -224,6 +224,75 @@ def edges():
         yield Case(name, setup(servers) + messages)
 
 
+def deferrable_instead(data):
+    """An input with its polling servers deferrable."""
+    at = 4
+    for _ in range(data[3]):
+        if data[at] == 3:
+            data = replaced(data, at, big(2, 1))
+        at += 10 + 13 * data[at + 1]
+    return data
+
+
+def polled():
+    """Polling servers: each of these traces would be another if they were deferrable."""
+    one = [
+        ("the worked example", [polling(4, 2, on_arrival(3)), idling(5, 2, periodic(1, 5))], WORKED_MESSAGES),
+        ("work that arrives before tick 0 waits", [polling(3, 1, on_arrival(1))], arrival(0, 0) + run(5)),
+        ("work that arrives between refills waits", [polling(5, 3, on_arrival(2))], run(2) + arrival(0, 0) + run(18)),
+        ("work ends, then an arrival", [polling(4, 2, on_arrival(1))], run(3) + arrival(0, 0) + run(2) + arrival(0, 0) + run(7)),
+        ("an arrival behind each tick", [polling(6, 4, on_arrival(1)), idling(4, 2)], (run(1) + arrival(0, 0)) * 30 + run(9)),
+        ("an arrival just before a refill, and just behind one", [polling(5, 2, on_arrival(1))], run(4) + arrival(0, 0) + run(6) + arrival(0, 0) + run(8)),
+        ("a refill without work, then a periodic arrival a tick later", [polling(4, 2, periodic(1, 8, 5))], run(40)),
+        ("a periodic arrival a tick before the refill", [polling(4, 2, periodic(1, 8, 3)), idling(6, 2)], run(40)),
+        ("T and P that do not divide each other", [polling(7, 3, periodic(2, 5)), idling(3, 1)], run(150)),
+        ("O 0 and work that ends, then an arrival", [polling(10, 5, periodic(1, 10), on_arrival(2))], run(3) + arrival(0, 1) + run(20)),
+        ("work of a second task holds the budget", [polling(9, 6, on_arrival(1), on_arrival(3))],
+         run(9) + arrival(0, 1) + run(10) + arrival(0, 0) + run(1) + arrival(0, 1) + run(15)),
+        ("work of the eighth task holds the budget", [polling(9, 6, *[on_arrival(1)] * 7, on_arrival(3))],
+         run(8) + arrival(0, 7) + run(5) + arrival(0, 0) + run(8)),
+        ("the eighth server", [deferrable(5, 1)] * 7 + [polling(7, 3, periodic(2, 5))], run(60)),
+        ("above an idling server", [polling(6, 3, periodic(1, 4)), idling(6, 6)], run(60)),
+        ("below a deferrable server", [deferrable(6, 3, periodic(2, 7, 1)), polling(5, 3, periodic(1, 4)), idling(9, 9)], run(120)),
+        ("below an idling server", [idling(4, 2, periodic(1, 3)), polling(6, 2, periodic(1, 5, 2))], run(120)),
+        ("above and below itself", [polling(5, 2, periodic(1, 4)), polling(7, 3, periodic(2, 9, 3)), polling(11, 4, periodic(1, 6), on_arrival(2))],
+         run(30) + arrival(2, 1) + run(60)),
+        ("a setup of all three kinds", POLLED, (run(13) + arrival(0, 0) + run(17) + arrival(1, 1)) * 20),
+        ("eight servers of eight tasks", [polling(10 + 7 * i, 1 + i, *(full_task(i, j) for j in range(8))) for i in range(8)],
+         run(90) + b"".join(arrival(i, 3 - i % 3) + run(40) for i in range(8)) + run(300)),
+        ("eight servers of one task on arrival", [polling(9, 2, on_arrival(3))] * 8, b"".join(arrival(7 - i, 0) + run(5) for i in range(8)) + run(60)),
+        ("P 1, C 1: filled and given up on every tick", [polling(1, 1, on_arrival(2))], run(2) + arrival(0, 0) + run(4)),
+        ("C is P", [polling(6, 6, on_arrival(2)), idling(2, 1)], (run(4) + arrival(0, 0)) * 8 + run(12)),
+        ("P 1,000,000: what lapses at setup stays away", [polling(LONGEST, LONGEST, periodic(1, 4, 2)), idling(3, 2)], run(300)),
+        ("P 1,000,000: the first end of work is the last tick", [polling(LONGEST, LONGEST, periodic(2, 5)), idling(3, 2)], run(300)),
+        ("P above the largest gap", [polling(65_540, 4, periodic(1, 9, 3)), idling(70_000, 50_000)], runs(65_600)),
+        ("lost at a lapsed server", [polling(7, 2, on_arrival(600_000))], run(2) + arrival(0, 0) * 3 + run(20)),
+        ("a lost arrival behind work that ran", [polling(2, 1, on_arrival(LONGEST)), idling(5, 5)],
+         run(1) + arrival(0, 0) * 2 + run(4) + arrival(0, 0) + run(3)),
+        ("a refused arrival changes nothing", [polling(4, 2, on_arrival(3), periodic(1, 6, 2))],
+         arrival(0, 1) + run(2) + arrival(0, 0) + arrival(0, 2) + run(12)),
+    ]
+    for name, servers, messages in one:
+        yield Case(f"polling: {name}", setup(servers) + messages)
+
+
+def polled_alike():
+    """Polling servers whose trace a deferrable server would have too."""
+    one = [
+        ("no tasks", [polling(3, 2)], run(9)),
+        ("no tasks, above and below an idling server", [polling(3, 2), idling(4, 1), polling(1, 1)], run(20)),
+        ("O 0, work 1 in every period", [polling(4, 2, periodic(1, 4))], run(30)),
+        ("O P: refill and arrival on one tick", [polling(4, 2, periodic(1, 4, 4))], run(30)),
+        ("work without end", [polling(5, 2, periodic(LONGEST, LONGEST)), idling(3, 1)], run(60)),
+        ("the budget ends before the work", [polling(6, 2, periodic(9, 30))], run(60)),
+        ("work ends with the budget", [polling(4, 2, periodic(2, 4))], run(40)),
+        ("work ends where more arrives", [polling(6, 4, periodic(2, 2)), idling(5, 1)], run(40)),
+        ("a setup and no message", POLLED, b""),
+    ]
+    for name, servers, messages in one:
+        yield Case(f"polling or deferrable: {name}", setup(servers) + messages)
+
+
 def refused_arrivals():
     """18, 19, 20, and the run goes on."""
     by_server = {0: (0, 1, 8, 255), 1: (0, 1, 2, 3, 255), 2: (0, 1, 2), 3: (0, 9), 7: (0,), 8: (0, 8), 255: (0, 255)}
@@ -239,7 +308,7 @@ def refused_arrivals():
 def server_faults(i, server, at):
     """Each field of a server's record: its name, place and size, and values that are refused."""
     P = server[1]
-    yield f"server {i} kind", at, 1, (0, 3, 255)
+    yield f"server {i} kind", at, 1, (0, 4, 255)
     yield f"server {i} tasks", at + 1, 1, (9, 255)
     yield f"server {i} P", at + 2, 4, (0, LONGEST + 1, TOP)
     yield f"server {i} C", at + 6, 4, (0, P + 1, TOP)
@@ -276,7 +345,12 @@ def chosen_faults(servers):
     return [fault for fault in faults(servers) if record_of(fault) in kept]
 
 
-BASES = (("worked", WORKED, list(faults(WORKED))), ("mixed", MIXED, list(faults(MIXED))), ("full", FULL, chosen_faults(FULL)))
+BASES = (
+    ("worked", WORKED, list(faults(WORKED))),
+    ("mixed", MIXED, list(faults(MIXED))),
+    ("polled", POLLED, list(faults(POLLED))),
+    ("full", FULL, chosen_faults(FULL)),
+)
 
 
 def damaged_fields():
@@ -431,7 +505,7 @@ def random_task(chance):
 
 def random_server(chance, most_tasks):
     P = random_period(chance)
-    return chance.choice((1, 2, 2)), P, random_budget(chance, P), tuple(random_task(chance) for _ in range(chance.randint(0, most_tasks)))
+    return chance.choice((1, 2, 3)), P, random_budget(chance, P), tuple(random_task(chance) for _ in range(chance.randint(0, most_tasks)))
 
 
 def random_setup(chance):
@@ -471,7 +545,7 @@ def busy_task(chance):
 
 def busy_server(chance):
     P = chance.randint(4, 60)
-    return chance.choice((1, 2)), P, chance.randint(1, 1 + P // 5), tuple(busy_task(chance) for _ in range(chance.randint(0, 8)))
+    return chance.choice((1, 2, 3, 3)), P, chance.randint(1, 1 + P // 5), tuple(busy_task(chance) for _ in range(chance.randint(0, 8)))
 
 
 def random_long(chance):
@@ -519,7 +593,7 @@ def once_each(found):
 
 def cases():
     chance = random.Random(SEED)
-    found = [*million(), *fillers(), *lost_to_the_top(), *random_long(chance), *pieces(), *edges(), *refused_arrivals()]
+    found = [*million(), *fillers(), *lost_to_the_top(), *random_long(chance), *pieces(), *edges(), *polled(), *polled_alike(), *refused_arrivals()]
     found += [Case("empty input", b""), *damaged_fields(), *damaged_twice(chance), *damaged_heads(), *said_lengths(), *cut_records(), *long_setups(chance)]
     found += [*damaged_messages(), *short_messages(), *cuts(chance), *appended(chance), *random_bytes(chance)]
     found += [*random_valid(chance), *random_damaged(chance), *drips(chance)]

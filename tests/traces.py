@@ -144,8 +144,13 @@ def missing(refusals, kinds):
     return found + [f"no case has a line of this kind: {kind}" for kind in KINDS if kind not in kinds]
 
 
+def kept_budgets(case):
+    """What is due, and what would be if each polling server kept its budget, as a deferrable one does."""
+    return model.trace(case.input), model.trace(cases.deferrable_instead(case.input))
+
+
 def blind():
-    """What this test would pass over: an altered output, a missing line, a refusal or a kind of line that no case has."""
+    """What this test would pass over: an altered output, a missing line, a refusal or a kind of line that no case has, a polling server that does not poll."""
     case, expected = cases.Case("self-test", edges.WORKED_INPUT), edges.WORKED_OUTPUT
     altered = [expected.replace(b"3 1 -", b"3 1 0"), expected[:-6], expected[:-1], expected + b"\n", b""]
     found = [f"a difference: {written}" for written in altered if not report(case, expected, written, "")]
@@ -160,6 +165,7 @@ def blind():
         if not missing({given for given in refusals if given[0] != number}, set(KINDS)):
             found.append(f"that no case has refusal {number}")
     found += [f"that no case has the kind of line {kind}" for kind in KINDS if not missing(refusals, set(KINDS) - {kind})]
+    found += [f"a polling server that keeps its budget: {case.name}" for case in cases.polled() if first_difference(*kept_budgets(case)) == 0]
     return found
 
 

@@ -36,7 +36,7 @@ extern "C" {
 #define RIBASCENZO_SETUP_VERSION 3    /* setup version not 1 */
 #define RIBASCENZO_SERVER_COUNT 4     /* 0 or more than 8 servers */
 #define RIBASCENZO_RECORD_CUT 5       /* a server or task record runs past the end */
-#define RIBASCENZO_SERVER_KIND 6      /* kind not 1 or 2 */
+#define RIBASCENZO_SERVER_KIND 6      /* kind not 1, 2 or 3 */
 #define RIBASCENZO_TASK_COUNT 7       /* more than 8 tasks */
 #define RIBASCENZO_PERIOD_RANGE 8     /* a server's period out of range */
 #define RIBASCENZO_BUDGET_RANGE 9     /* a server's budget is 0 or above its period */
@@ -119,12 +119,13 @@ struct ribascenzo_task {
     uint32_t offset;  /* O, 0 to 1,000,000 */
 };
 
-#define RIBASCENZO_IDLING 1
-#define RIBASCENZO_DEFERRABLE 2
+#define RIBASCENZO_IDLING 1     /* it wants every tick */
+#define RIBASCENZO_DEFERRABLE 2 /* it wants a tick where it has work, and keeps its budget where it has none */
+#define RIBASCENZO_POLLING 3    /* it wants a tick where it has work, and where it has none gives its budget up until the next refill */
 
 /* The first `count` tasks are used; their place is their rank, 0 the highest. An unused server is 0 in all words. */
 struct ribascenzo_server {
-    uint32_t kind;   /* RIBASCENZO_IDLING or RIBASCENZO_DEFERRABLE */
+    uint32_t kind;   /* RIBASCENZO_IDLING, RIBASCENZO_DEFERRABLE or RIBASCENZO_POLLING */
     uint32_t count;  /* tasks, 0 to 8 */
     uint32_t period; /* P, 1 to 1,000,000 */
     uint32_t budget; /* C, 1 to P: what a refill sets */
@@ -173,10 +174,12 @@ struct ribascenzo_tick_answer {
  * Refused as ribascenzo_setup_read: 1 to 13, with the place. */
 struct ribascenzo_refusal ribascenzo_fresh(struct ribascenzo_state *s, const uint8_t *setup, size_t length);
 
-/* Answers whether the words are a sound state: a sound table, budgets and loads in range, queues with each refill and each periodic arrival once. */
+/* Answers whether the words are a sound state: a sound table, budgets and loads in range, budget 0 of each polling server without work, queues with each refill
+ * and each periodic arrival once. */
 bool ribascenzo_sound(const struct ribascenzo_state *s);
 
-/* A sound state. Runs one tick: chooses, charges, clocks all queues, refills and releases; stores what it chose in *answer. Refused: 31. */
+/* A sound state. Runs one tick: chooses, charges, clocks all queues, refills and releases, and sets the budget of each polling server without work to 0; stores
+ * what it chose in *answer. Refused: 31. */
 struct ribascenzo_refusal ribascenzo_tick(struct ribascenzo_state *s, struct ribascenzo_tick_answer *answer);
 
 /* A sound state. Adds the work of a task on arrival, for the next tick. *lost is 0 where it is accepted, and 1 where pending work would pass 1,000,000: then

@@ -299,7 +299,7 @@ static bool sound_task(const Task *t)
 
 static bool sound_server(const Server *v)
 {
-    if (!in_range(v->kind, RIBASCENZO_IDLING, RIBASCENZO_DEFERRABLE) || v->count > ENTRIES)
+    if (!in_range(v->kind, RIBASCENZO_IDLING, RIBASCENZO_POLLING) || v->count > ENTRIES)
         return false;
     if (!in_range(v->period, 1, LONGEST) || !in_range(v->budget, 1, v->period))
         return false;
@@ -339,6 +339,20 @@ static bool holds(const Queue *q, const uint32_t reach[ENTRIES])
     return events == wanted;
 }
 
+static uint32_t first_pending(const Server *v, const Entry *e)
+{
+    for (uint32_t j = 0; j < v->count; j++)
+        if (e->loads[j].pending)
+            return j;
+    return ENTRIES;
+}
+
+// Whether a server has a budget that it must have given up: it is polling, and has no work.
+static bool lapses(const Server *v, const Entry *e)
+{
+    return v->kind == RIBASCENZO_POLLING && e->budget && first_pending(v, e) == ENTRIES;
+}
+
 // An unused entry belongs to a server that is 0, which leaves no budget, no load and no event.
 static bool sound_entry(const Server *v, const Entry *e)
 {
@@ -348,7 +362,7 @@ static bool sound_entry(const Server *v, const Entry *e)
     for (uint32_t j = 0; j < v->count; j++)
         if (e->loads[j].pending > RIBASCENZO_MOST_WORK || e->loads[j].lost > RIBASCENZO_MOST_LOST)
             return false;
-    if (!zero(e->loads + v->count, (ENTRIES - v->count) * sizeof(Load) / 4))
+    if (lapses(v, e) || !zero(e->loads + v->count, (ENTRIES - v->count) * sizeof(Load) / 4))
         return false;
     for (uint32_t j = 0; j < ENTRIES; j++)
         reach[j] = v->tasks[j].period > v->tasks[j].offset ? v->tasks[j].period : v->tasks[j].offset;
@@ -374,14 +388,6 @@ bool ribascenzo_sound(const State *s)
 }
 
 // THE TICK
-
-static uint32_t first_pending(const Server *v, const Entry *e)
-{
-    for (uint32_t j = 0; j < v->count; j++)
-        if (e->loads[j].pending)
-            return j;
-    return ENTRIES;
-}
 
 // The highest server that wants a tick and has budget, and in it the first task with pending work; both are charged.
 static void serve(State *s, struct ribascenzo_tick_answer *a)
@@ -430,6 +436,7 @@ static uint32_t refill(State *s)
     return handled;
 }
 
+// The last of a server's events on a tick: behind them a polling server without work gives its budget up.
 static uint32_t release(const Server *v, Entry *e)
 {
     uint32_t handled = 0;
@@ -439,6 +446,8 @@ static uint32_t release(const Server *v, Entry *e)
         arrive(&v->tasks[j], &e->loads[j]);
         insert(&e->arrivals, j, v->tasks[j].period);
     }
+    if (lapses(v, e))
+        e->budget = 0;
     return handled;
 }
 
@@ -505,7 +514,7 @@ static Refusal server_refusal(const uint8_t *setup, size_t at, size_t length)
     const uint8_t *r = setup + at;
     if (length - at < SERVER_RECORD)
         return refused_at(RIBASCENZO_RECORD_CUT, at);
-    if (!in_range(r[0], RIBASCENZO_IDLING, RIBASCENZO_DEFERRABLE))
+    if (!in_range(r[0], RIBASCENZO_IDLING, RIBASCENZO_POLLING))
         return refused_at(RIBASCENZO_SERVER_KIND, at);
     if (r[1] > ENTRIES)
         return refused_at(RIBASCENZO_TASK_COUNT, at + 1);
@@ -598,6 +607,8 @@ static void fresh_entry(const Server *v, Entry *e)
         e->loads[j].pending = t->offset ? 0 : t->work;
         insert(&e->arrivals, j, t->offset ? t->offset : t->period);
     }
+    if (lapses(v, e))
+        e->budget = 0;
 }
 
 Refusal ribascenzo_fresh(State *s, const uint8_t *setup, size_t length)

@@ -1,10 +1,10 @@
-// Document 01's servers and tasks in plain C, with no check of the state: ticks over relative queues with fillers. bench/ticks.c and bench/trace.c stand on it.
+// The documents' servers and tasks in plain C, with no check of the state: ticks over relative queues with fillers. bench/ticks.c and bench/trace.c stand on it.
 #include <stdbool.h>
 #include <stdint.h>
 #include <stdio.h>
 #include <string.h>
 
-enum { ENTRIES = 8, CELLS = 32, FULL = 65535, FILLER = 255, IDLING = 1, MOST_PENDING = 1000000, MOST_LOST = 65535 };
+enum { ENTRIES = 8, CELLS = 32, FULL = 65535, FILLER = 255, IDLING = 1, POLLING = 3, MOST_PENDING = 1000000, MOST_LOST = 65535 };
 
 typedef struct { uint8_t id; uint16_t gap; } Cell;
 typedef struct { Cell cells[CELLS]; uint32_t len; } Queue;
@@ -119,6 +119,13 @@ static bool arrive(Task *t)
     return fits;
 }
 
+// A polling server without work gives its budget up.
+static void lapse(Server *v)
+{
+    if (v->kind == POLLING && v->budget && first_pending(v) == ENTRIES)
+        v->budget = 0;
+}
+
 static Answer tick(State *s)
 {
     Answer a = choose(s);
@@ -144,6 +151,7 @@ static Answer tick(State *s)
                 insert(&v->arrivals, j, v->tasks[j].period);
                 a.handled++;
             } while (due(&v->arrivals));
+        lapse(v);
     }
     return a;
 }
@@ -185,5 +193,6 @@ static void fresh(State *s, const uint8_t **p)
         insert(&s->refills, i, v->period);
         for (uint8_t j = 0; j < v->count; j++)
             fresh_task(v, j, p);
+        lapse(v);
     }
 }

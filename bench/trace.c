@@ -101,7 +101,7 @@ static Refusal server_refusal(const uint8_t *s, uint32_t at, uint32_t len)
     const uint8_t *r = s + at;
     if (len - at < SERVER_RECORD)
         return (Refusal){ 5, at };
-    if (!in_range(r[0], 1, 2))
+    if (!in_range(r[0], IDLING, POLLING))
         return (Refusal){ 6, at };
     if (r[1] > ENTRIES)
         return (Refusal){ 7, at + 1 };

@@ -82,8 +82,8 @@ def number_faults():
     longest = len(cases.setup(cases.FULL))
     due |= {"CELLS": model.CELLS, "ENTRIES": model.ENTRIES, "FILLER": model.FILLER, "LARGEST_GAP": model.LARGEST_GAP, "LONGEST": model.LONGEST,
             "MOST_WORK": model.MOST_WORK, "MOST_LOST": model.MOST_LOST, "LONGEST_SETUP": longest, "MESSAGE_BYTES": model.MESSAGE, "RUN": model.RUN,
-            "ARRIVAL": model.ARRIVAL, "IDLING": model.IDLING, "DEFERRABLE": model.DEFERRABLE, "ON_ARRIVAL": model.ON_ARRIVAL, "PERIODIC": model.PERIODIC,
-            "IDLE": 0, "BURNING": 1, "RUNNING": 2}
+            "ARRIVAL": model.ARRIVAL, "IDLING": model.IDLING, "DEFERRABLE": model.DEFERRABLE, "POLLING": model.POLLING, "ON_ARRIVAL": model.ON_ARRIVAL,
+            "PERIODIC": model.PERIODIC, "IDLE": 0, "BURNING": 1, "RUNNING": 2}
     own = defines()
     return [f"the header has RIBASCENZO_{name} as {own.get(name)}, due is {due.get(name)}" for name in sorted(own | due) if own.get(name) != due.get(name)]
 
@@ -103,12 +103,13 @@ LAYOUT_TICKS = 40
 
 
 def layout_setup():
-    """Eight servers with 8 to 1 tasks, the first on arrival. But for kinds, counts and releases no two values are the same."""
+    """Eight servers with 8 to 1 tasks, the first on arrival. But for kinds, counts and releases no two values are the same. The last server is polling, and its
+    task has work from the start, so that it too has a budget."""
     servers, k = [], 0
     for i in range(8):
-        tasks = [cases.periodic(101 + k + j, 301 + k + j, 3 + k + j) for j in range(8 - i)]
+        tasks = [cases.periodic(101 + k + j, 301 + k + j, 3 + k + j if i < 7 else 0) for j in range(8 - i)]
         k += len(tasks)
-        servers.append((2 - i % 2, 601 + i, 501 + i, tuple(tasks) if i else (cases.on_arrival(900_001), *tasks[1:])))
+        servers.append((2 - i % 2 if i < 7 else 3, 601 + i, 501 + i, tuple(tasks) if i else (cases.on_arrival(900_001), *tasks[1:])))
     return cases.setup(servers)
 
 

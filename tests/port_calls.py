@@ -402,7 +402,7 @@ def broken_tables(chance, base):
         yield "server count", base._replace(count=count)
     yield "server count below the servers", base._replace(count=2)
     yield "server count above the servers", base._replace(count=4)
-    for kind in (0, 3, 255, 256, 257, 258, any_high):
+    for kind in (0, 4, 255, 256, 257, 258, 259, any_high):
         yield "kind", with_server(base, chance.randrange(3), kind=kind)
     for count in (9, 255, 256, 257, TOP):
         yield "task count", with_server(base, chance.randrange(3), count=count)
@@ -430,7 +430,7 @@ def broken_tables(chance, base):
         yield f"{field} of an unused task", with_server(base, 1, task=(chance.choice((0, 7)), {field: chance.choice((1, 2, TOP))}))
         yield f"{field} of an unused server's task", with_server(base, chance.choice((3, 7)), task=(chance.choice((0, 7)), {field: 1}))
     for field in ("kind", "count", "P", "C"):
-        yield f"{field} of an unused server", with_server(base, chance.choice((3, 7)), **{field: chance.choice((1, 2, TOP))})
+        yield f"{field} of an unused server", with_server(base, chance.choice((3, 7)), **{field: chance.choice((1, 2, 3, TOP))})
 
 
 def at(values, i, value):
@@ -492,6 +492,34 @@ def broken_loads(state):
         yield f"{field} of an unused server's task", with_load(state, field, 7, 7, 1)
 
 
+# Polling servers without fresh work: with tasks of both releases, without tasks, and with eight; between them the other kinds.
+POLLING_BASE = [cases.polling(40, 12, cases.on_arrival(4), cases.periodic(2, 30, 9)), cases.deferrable(9, 3, cases.on_arrival(1)), cases.polling(9, 3),
+                cases.idling(9, 3), cases.polling(20, 5, *[cases.on_arrival(1)] * 8)]
+POLLING_MOST = {0: 12, 2: 3, 4: 5}  # their budgets C
+
+
+def polling_base():
+    return model.fresh(model.read_setup(cases.setup(POLLING_BASE))[1])[1]
+
+
+def broken_polling(state):
+    """Polling servers with a budget and no work; what other servers have, and arrivals that were lost, are no work."""
+    busy = with_load(with_load(state, "work", 1, 0, 1), "lost", 0, 0, 1)
+    for i, most in POLLING_MOST.items():
+        for budget in (1, most):
+            yield f"polling, no work of server {i}, a budget", dataclasses.replace(state, budgets=at(state.budgets, i, budget))
+            yield f"polling, no work of server {i}, a budget, work elsewhere", dataclasses.replace(busy, budgets=at(state.budgets, i, budget))
+
+
+def sound_polling(state):
+    """(clause, state): polling servers with work and any budget, or with neither."""
+    yield "polling, no work, budget 0", state
+    for i, j in ((0, 0), (0, 1), (4, 0), (4, 7)):
+        for name, budget in (("0", 0), ("1", 1), ("C", POLLING_MOST[i])):
+            busy = with_load(state, "work", i, j, 1)
+            yield f"polling, work of task {j} of server {i}, budget {name}", dataclasses.replace(busy, budgets=at(state.budgets, i, budget))
+
+
 def broken_states(chance, state):
     """(clause, words): each clause of a sound state broken, and as far as can be only that one."""
     for clause, table in broken_tables(chance, state.table):
@@ -508,12 +536,11 @@ def near_limits(chance, state):
     """The state with a server's budget, work and lost counts at their limits: work to which E can just be added, and to which it just cannot."""
     i = chance.randrange(state.table.count)
     server = state.table.servers[i]
-    state = dataclasses.replace(state, budgets=at(state.budgets, i, chance.choice((0, server.C))))
     for j in range(server.count):
         left = model.MOST_WORK - server.tasks[j].E
         state = with_load(state, "work", i, j, chance.choice((0, 1, 999_999, model.MOST_WORK, left, left + 1)))
         state = with_load(state, "lost", i, j, chance.choice((0, 65_534, 65_535)))
-    return state
+    return dataclasses.replace(state, budgets=at(state.budgets, i, chance.choice((0, model.most_budget(server, state.work[i])))))
 
 
 def nearer(chance, state):
@@ -554,6 +581,25 @@ def flipped_call(held, chance):
     held.hold(before)
 
 
+def polling_states(script, chance):
+    """Every call on states that a polling server's budget makes unsound, and on such as are sound, each time as they were."""
+    for clause, state in broken_polling(polling_base()):
+        held = State(script, chance)
+        held.soil()
+        held.hold(words.state_words(state))
+        assert not model.sound_state(state), clause
+        held.every_call(clause)
+    for clause, state in sound_polling(polling_base()):
+        held = State(script, chance)
+        assert model.sound_state(state), clause
+        for call, arguments in (("sound", []), ("tick", []), ("arrive", [0, 0]), ("arrive", [4, 7]), ("budget", [0]), ("budget", [4]), ("load", [4, 7])):
+            held.soil()
+            held.hold(words.state_words(state))
+            getattr(held, call)(*arguments, clause)
+        for _ in range(45):
+            held.tick()
+
+
 def states():
     script, chance = Script("states", State.ARENA), random.Random(SEED + 1)
     base = model.fresh(model.read_setup(cases.setup(BROKEN_BASE))[1])[1]
@@ -565,7 +611,10 @@ def states():
             held.hold(values)
             assert not model.sound_state(words.state(values)), clause
             held.every_call(clause)
-    for name, servers in (("worked", cases.WORKED), ("mixed", cases.MIXED), ("full", cases.FULL), ("no tasks", cases.NO_TASKS)):
+    script.group = "polling servers"
+    polling_states(script, chance)
+    shared = (("worked", cases.WORKED), ("mixed", cases.MIXED), ("polled", cases.POLLED), ("full", cases.FULL), ("no tasks", cases.NO_TASKS))
+    for name, servers in shared:
         script.group = name
         state_sequence(script, chance, cases.setup(servers), 300)
     for k in range(120):
@@ -754,7 +803,7 @@ def clauses():
     chance = random.Random(0)
     base = model.fresh(model.read_setup(cases.setup(BROKEN_BASE))[1])[1]
     due = {clause: QUEUE_CALLS for clause, _ in broken_rows(chance)}
-    due.update({clause: STATE_CALLS for clause, _ in broken_states(chance, base)})
+    due.update({clause: STATE_CALLS for clause, _ in (*broken_states(chance, base), *broken_polling(polling_base()))})
     for clause, _ in broken_tables(chance, base.table):
         due[f"table: {clause}"] = STATE_CALLS + ("setup_write",)
     return due
@@ -768,6 +817,8 @@ def missing(reached):
     found += [f"no {call} answers true" for call in ("queue_sound", "sound") if (call, 1) not in numbers]
     extra = {(call, number) for call, number in numbers if number and number not in REFUSALS.get(call, (1,))}
     found += [f"{call} is refused with {number}, which is not one of its refusals" for call, number in sorted(extra)]
+    sound = [(call, number, clause) for clause, _ in sound_polling(polling_base()) for call, number in (("sound", 1), *((call, 0) for call in STATE_CALLS))]
+    found += [f"no {call} is accepted for: {clause}" for call, number, clause in sound if (call, number, clause) not in reached]
     return found + [f"{call} is never refused for: {clause}" for clause, calls in clauses().items() for call in calls if (call, 31, clause) not in reached]
 
 

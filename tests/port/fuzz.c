@@ -334,7 +334,7 @@ static uint8_t *some_task(uint8_t *to)
 static uint8_t *some_server(uint8_t *to)
 {
     uint32_t period = some_ticks(), tasks = below(RIBASCENZO_ENTRIES + 1);
-    to = put(put(to, 1 + below(2), 1), tasks, 1);
+    to = put(put(to, between(RIBASCENZO_IDLING, RIBASCENZO_POLLING), 1), tasks, 1);
     to = put(put(to, period, 4), below(2) ? between(1, period) : 1, 4);
     while (tasks--)
         to = some_task(to);
@@ -394,6 +394,22 @@ static void write_again(uint32_t length)
         wrong("a buffer that is too short is not refused");
 }
 
+/* Whether a server of the room's state must have no budget: it is polling, and no task of it has work. */
+static bool gives_up(uint32_t i)
+{
+    uint32_t work = 0;
+    for (uint32_t j = 0; j < RIBASCENZO_ENTRIES; j++)
+        work |= room.s.entries[i].loads[j].pending;
+    return room.s.table.servers[i].kind == RIBASCENZO_POLLING && !work;
+}
+
+static void fresh_budgets(void)
+{
+    for (uint32_t i = 0; i < RIBASCENZO_ENTRIES; i++)
+        if (room.s.entries[i].budget != (gives_up(i) ? 0 : room.s.table.servers[i].budget))
+            wrong("a fresh budget");
+}
+
 static void setup_round(void)
 {
     uint32_t length = some_setup();
@@ -414,6 +430,7 @@ static void setup_round(void)
         return;
     if (!ribascenzo_sound(&room.s) || memcmp(&room.s.table, &room.t, sizeof room.t))
         wrong("a fresh state is not sound, or has another table");
+    fresh_budgets();
     write_again(length);
     flip_words(&room.t, TABLE_WORDS, 1);
     write_setup(LONG);
@@ -422,6 +439,16 @@ static void setup_round(void)
 /* STATES */
 
 static State state; /* a sound one, from round to round */
+
+/* Behind a tick a budget is what was left of it, or full; or it is given up. */
+static void tick_budgets(const State *was)
+{
+    for (uint32_t i = 0; i < RIBASCENZO_ENTRIES; i++) {
+        uint32_t charged = room.answer[0] != RIBASCENZO_IDLE && room.answer[1] == i, budget = room.s.entries[i].budget;
+        if (gives_up(i) ? budget != 0 : budget != was->entries[i].budget - charged && budget != was->table.servers[i].budget)
+            wrong("a budget behind a tick");
+    }
+}
 
 static void ticked(const State *was)
 {
@@ -434,12 +461,22 @@ static void ticked(const State *was)
         wrong("a server without budget was chosen");
     if (memcmp(&was->table, &room.s.table, sizeof was->table))
         wrong("a tick changed the table");
+    tick_budgets(was);
+}
+
+static void sound_budgets(void)
+{
+    for (uint32_t i = 0; i < RIBASCENZO_ENTRIES; i++)
+        if (room.s.entries[i].budget > (gives_up(i) ? 0 : room.s.table.servers[i].budget))
+            wrong("a sound state with a budget that is too large");
 }
 
 static void tick(void)
 {
     bool sound = ribascenzo_sound(&room.s);
     State was = room.s;
+    if (sound)
+        sound_budgets();
     begin();
     Refusal r = ribascenzo_tick(&room.s, (struct ribascenzo_tick_answer *)(void *)room.answer);
     check(r, 2, (void *)&room.s, sizeof room.s, (void *)room.answer, sizeof room.answer);

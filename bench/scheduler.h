@@ -10,7 +10,7 @@ typedef struct { uint8_t id; uint16_t gap; } Cell;
 typedef struct { Cell cells[CELLS]; uint32_t len; } Queue;
 typedef struct { uint32_t work, period, offset, pending; uint16_t lost; bool periodic; } Task;
 typedef struct { Task tasks[ENTRIES]; Queue arrivals; uint32_t count, period, full, budget; uint8_t kind; } Server;
-typedef struct { Server servers[ENTRIES]; Queue refills; uint32_t count; } State;
+typedef struct { Server servers[ENTRIES]; Queue refills; uint32_t count, polled; } State; // polled: the place behind the last polling server
 typedef struct { uint32_t handled; uint8_t server, task; } Answer; // ENTRIES: none
 
 // THE QUEUE
@@ -119,11 +119,14 @@ static bool arrive(Task *t)
     return fits;
 }
 
-// A polling server without work gives its budget up.
-static void lapse(Server *v)
+// Polling servers without work give their budget up.
+static void lapse(State *s)
 {
-    if (v->kind == POLLING && v->budget && first_pending(v) == ENTRIES)
-        v->budget = 0;
+    for (uint32_t i = 0; i < s->polled; i++) {
+        Server *v = &s->servers[i];
+        if (v->kind == POLLING && v->budget && first_pending(v) == ENTRIES)
+            v->budget = 0;
+    }
 }
 
 static Answer tick(State *s)
@@ -151,8 +154,8 @@ static Answer tick(State *s)
                 insert(&v->arrivals, j, v->tasks[j].period);
                 a.handled++;
             } while (due(&v->arrivals));
-        lapse(v);
     }
+    lapse(s);
     return a;
 }
 
@@ -193,6 +196,8 @@ static void fresh(State *s, const uint8_t **p)
         insert(&s->refills, i, v->period);
         for (uint8_t j = 0; j < v->count; j++)
             fresh_task(v, j, p);
-        lapse(v);
+        if (v->kind == POLLING)
+            s->polled = i + 1;
     }
+    lapse(s);
 }

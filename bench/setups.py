@@ -7,7 +7,7 @@
 import pathlib
 import sys
 
-IDLING, DEFERRABLE = 1, 2
+IDLING, DEFERRABLE, POLLING = 1, 2, 3
 
 
 def big(number, size):
@@ -33,14 +33,27 @@ def worked():
     return setup([server(DEFERRABLE, 4, 2, [task(3)]), server(IDLING, 5, 2, [task(1, 5)])])
 
 
-def realistic():
-    """Eight servers of eight tasks, with periods of 10 to 2,000 ticks."""
+def eight(kinds):
+    """Eight servers of eight tasks, with periods of 10 to 2,000 ticks; the kinds by turns."""
     steps = [1, 2, 4, 5, 8, 10, 16, 20]
     servers = []
     for i, period in enumerate([10, 15, 20, 30, 40, 50, 80, 100]):
         tasks = [task(1 + j % 3, period * step, (7 * i + 3 * j) % period) for j, step in enumerate(steps)]
-        servers.append(server(DEFERRABLE if i % 2 else IDLING, period, max(1, period // 9), tasks))
+        servers.append(server(kinds[i % len(kinds)], period, max(1, period // 9), tasks))
     return setup(servers)
+
+
+def realistic():
+    return eight([IDLING, DEFERRABLE])
+
+
+def polling():
+    """To be compared with `deferrable`, which differs in the kind alone."""
+    return eight([POLLING])
+
+
+def deferrable():
+    return eight([DEFERRABLE])
 
 
 def fillers():
@@ -66,7 +79,7 @@ def batches(count):
 def main():
     tail, words = (runs, sys.argv[2:]) if sys.argv[1] == "--trace" else (batches, sys.argv[1:])
     folder = pathlib.Path(words[0])
-    for make in (worked, realistic, fillers):
+    for make in (worked, realistic, fillers, polling, deferrable):
         for count in words[1:]:
             (folder / f"{make.__name__}.{count}").write_bytes(make() + tail(int(count)))
 

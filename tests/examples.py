@@ -22,6 +22,46 @@ WORKED = """tick server task
 7 - -
 end 8
 """
+# polling.hex, worked out by hand: on tick 0 the work ends and the budget goes; the request behind it waits for the refill at 8, and server 1 goes first
+POLLING = """tick server task
+0 0 0
+1 1 0
+2 1 0
+3 1 0
+4 1 0
+5 1 0
+6 - -
+7 - -
+8 0 0
+9 0 1
+10 0 1
+11 1 0
+12 1 0
+13 1 0
+14 1 0
+15 1 0
+end 16
+"""
+# the same with server 0 deferrable: it has 2 ticks of budget left when the request comes
+DEFERRABLE = """tick server task
+0 0 0
+1 0 1
+2 0 1
+3 1 0
+4 1 0
+5 1 0
+6 1 0
+7 1 0
+8 0 0
+9 1 0
+10 1 0
+11 1 0
+12 1 0
+13 1 0
+14 - -
+15 - -
+end 16
+"""
 PERIOD_0 = "0032 01 02\n02 01 00000000 00000002\n" + "00 " * 36
 UNPROVED = "#!/bin/sh\necho 'rt: refusal proved (3 s)'\necho 'a fact that fails'\necho 'rt: queue NOT PROVED (exit 1, 4 s)'\nexit 1\n"
 
@@ -48,6 +88,16 @@ def example_faults(folder):
     done = run(ROOT / "examples", "brakes.hex")
     ended = re.search(r"\A(tick server task\n(?:.*\n)*)refused 20 at 117\n(?:.*\n)*end 50\n\Z", done.stdout)
     return found + faults("brakes.hex, which has a refused arrival", done, 0, ended[0] if ended else "a refused arrival and an end")
+
+
+def polling_faults(folder):
+    """polling.hex, and what its last remark says: another kind in one byte."""
+    text = (ROOT / "examples" / "polling.hex").read_text()
+    found = faults("polling.hex", run(ROOT / "examples", "polling.hex"), 0, POLLING)
+    if len(re.findall(r"^03 02 ", text, re.M)) != 1:
+        found.append("polling.hex has not one line of a polling server with two tasks")
+    (folder / "deferrable.hex").write_text(re.sub(r"^03 02 ", "02 02 ", text, flags=re.M))
+    return found + faults("polling.hex with a deferrable server", run(folder, "deferrable.hex"), 0, DEFERRABLE)
 
 
 def refused_faults(folder):
@@ -112,7 +162,8 @@ def main():
     with tempfile.TemporaryDirectory() as name:
         folder = pathlib.Path(name)
         wrong = [f"the test passes over {line}" for line in blind()]
-        wrong = wrong or word_faults(range(1, 33)) + file_faults(folder) + example_faults(folder) + refused_faults(folder) + unproved_faults(folder)
+        wrong = wrong or [*word_faults(range(1, 33)), *file_faults(folder), *example_faults(folder), *polling_faults(folder), *refused_faults(folder),
+                          *unproved_faults(folder)]
     for line in wrong:
         print(f"examples: {line}")
     if wrong:

@@ -174,8 +174,8 @@ struct ribascenzo_tick_answer {
  * Refused as ribascenzo_setup_read: 1 to 13, with the place. */
 struct ribascenzo_refusal ribascenzo_fresh(struct ribascenzo_state *s, const uint8_t *setup, size_t length);
 
-/* Answers whether the words are a sound state: a sound table, budgets and loads in range, budget 0 of each polling server without work, queues with each refill
- * and each periodic arrival once. */
+/* Answers whether the words are a sound state: a sound table, budgets and loads in range, queues with each refill and each periodic arrival once, and each
+ * polling server without work has budget 0. */
 bool ribascenzo_sound(const struct ribascenzo_state *s);
 
 /* A sound state. Runs one tick: chooses, charges, clocks all queues, refills and releases, and sets the budget of each polling server without work to 0; stores
@@ -183,7 +183,8 @@ bool ribascenzo_sound(const struct ribascenzo_state *s);
 struct ribascenzo_refusal ribascenzo_tick(struct ribascenzo_state *s, struct ribascenzo_tick_answer *answer);
 
 /* A sound state. Adds the work of a task on arrival, for the next tick. *lost is 0 where it is accepted, and 1 where pending work would pass 1,000,000: then
- * the lost count grows by 1, to 65,535 at most. Refused: 31; 18 no such server; 19 no such task; 20 the task is periodic. */
+ * the lost count grows by 1, to 65,535 at most. A polling server that has given its budget up runs the work after its next refill. Refused: 31; 18 no such
+ * server; 19 no such task; 20 the task is periodic. */
 struct ribascenzo_refusal ribascenzo_arrive(struct ribascenzo_state *s, uint8_t server, uint8_t task, uint32_t *lost);
 
 /* A sound state, which is only read. Stores what is left of a server's budget in *budget. Refused: 31; 18 no such server. */

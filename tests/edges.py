@@ -419,7 +419,7 @@ def polling_points():
         # on tick 4 the work ends; that of the next arrival waits for the refill on tick 7
         *same("E: work ends, then an arrival", behind(short, 3, (0, 0), 2, (0, 0), 3), ([0], [
             idle, idle, idle, (None, None, 1, 2), (0, 0, 0, 0), idle, idle, (None, None, 1, 2)])),
-        # so period 1, ticks 4 to 7, runs 1 tick of the 2 that W 0 leaves it: its work was not pending at the end of tick 4
+        # so period 1, ticks 4 to 7, runs 1 tick of the 2 that it would be sure of: its work was not pending at the end of tick 4
         *same("E: what it would be sure of", (model.W(short, 0), model.least(short, 0)), (0, 2)),
         # the deferrable server keeps its budget without work, the polling one below it does not, and the idling one gains and burns
         *same("F: below a deferrable and above an idling server", behind(below, 1, (0, 0), (1, 0), 6), ([2, 0, 9], [

@@ -166,6 +166,7 @@ def blind():
             found.append(f"that no case has refusal {number}")
     found += [f"that no case has the kind of line {kind}" for kind in KINDS if not missing(refusals, set(KINDS) - {kind})]
     found += [f"a polling server that keeps its budget: {case.name}" for case in cases.polled() if first_difference(*kept_budgets(case)) == 0]
+    found += [f"that a deferrable server differs: {case.name}" for case in cases.polled_alike() if first_difference(*kept_budgets(case)) != 0]
     return found
 
 

@@ -6,7 +6,7 @@ use mathlib.Core.Logic.{_↔_}
 use Prim.Native.Nat.{ℕ, _≤_, _<_}
 use native.Mathlib.Omega.{arith}
 use lib.Dec.{ltb, eqb}
-use lib.ListN.{length, getD, List·getD-eq-default}
+use lib.ListN.{length, getD}
 use borrow.Author.Tests.{le-ltb, ltb-true, ltb-false, eqb-true, ne-eqb}
 use Rattle.refusal.specs.Small.{pick, both}
 use Rattle.refusal.proofs.Small.{both-left, both-false, contrary}
@@ -16,7 +16,7 @@ use Rattle.table.specs.Table.{zeroServer}
 use Rattle.table.specs.Sound.{serverb, zeroServerb}
 use Rattle.scheduler.specs.State.{zeroLoad, zeroEntry, serverAt, entryAt}
 use Rattle.scheduler.specs.Sound.{loadb, zeroLoadb, stateb}
-use Rattle.scheduler.specs.Choice.{pendingb, firstPending, somePending, wantsb, chosenOf, choiceOf, servesb, choiceNumber}
+use Rattle.scheduler.specs.Choice.{firstPending, somePending, wantsb, chosenOf, choiceOf, servesb, choiceNumber}
 use Rattle.scheduler.specs.Tick.{tickOf}
 use Rattle.scheduler.specs.Meaning.{SizedState, readyAt, pendingAt, Highest, Chosen}
 use Rattle.scheduler.specs.declared.Load.{Load}

@@ -9,7 +9,7 @@ use native.Mathlib.Omega.{arith}
 use lib.Dec.{leb, ltb, eqb}
 use lib.ListN.{getD}
 use borrow.Author.Tests.{ltb-true, leb-true, le-leb, eq-eqb, eqb-true}
-use Rattle.refusal.specs.Small.{pick, alter}
+use Rattle.refusal.specs.Small.{pick}
 use Rattle.refusal.specs.Numbers.{noRoomAgain}
 use Rattle.refusal.specs.Refusal.{none}
 use Rattle.refusal.proofs.Small.{both-left, both-right, contrary}

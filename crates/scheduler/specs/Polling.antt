@@ -1,5 +1,5 @@
 -- Polling servers (kind 3): document 02, #101. "Kind 3 wants a tick as kind 2 does" (`wantsb`); here is what it gives up.
-use mathlib.Core.Bool.{Bool, true, false, not}
+use mathlib.Core.Bool.{Bool, not}
 use Prim.Native.Nat.{ℕ}
 use lib.Dec.{eqb}
 use Rattle.refusal.specs.Small.{pick, both}

@@ -5,7 +5,6 @@ use mathlib.Core.List.{List, [], _∷_}
 use Prim.Native.Nat.{ℕ, zero, suc}
 use Rattle.refusal.specs.Small.{alter}
 use Rattle.refusal.specs.Numbers.{unsound}
-use Rattle.table.specs.declared.Table.{Table}
 use Rattle.scheduler.specs.State.{withBudget}
 use Rattle.scheduler.specs.Sound.{stateb}
 use Rattle.scheduler.specs.Arrive.{withEntries, arriveOf}

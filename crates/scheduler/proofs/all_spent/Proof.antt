@@ -1,6 +1,6 @@
 -- `scheduler::all_spent` meets its contract. The loop's invariant: the test of all entries is what is left of it from the entry at i on (proofs/Stated.antt).
 use mathlib.Core.Path.{_≡_, refl, sym, ap, _∙_}
-use mathlib.Core.Bool.{Bool, not}
+use mathlib.Core.Bool.{not}
 use Prim.Native.Nat.{_-_, _≤_}
 use native.Mathlib.Omega.{arith}
 use borrow.Author.Needs.{needs}

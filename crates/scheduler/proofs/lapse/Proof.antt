@@ -1,5 +1,5 @@
 -- `scheduler::lapse` meets its contract: what there is to give up is given up, and where there is nothing the entry stays as it is (proofs/Lapsing.antt).
-use mathlib.Core.Path.{_≡_, sym, _∙_}
+use mathlib.Core.Path.{sym, _∙_}
 use borrow.Author.Needs.{needs}
 use Rattle.scheduler.proofs.Lapsing.{lapsed-same, lapsed-given}
 use Rattle.scheduler.proofs.lapse.Statement.{statement}

@@ -1,7 +1,7 @@
 -- `scheduler::polled_entries` meets its contract. The loop's invariant: no server before i is polling. Those that are not in use are zero (proofs/Lapsing.antt).
 use mathlib.Core.Path.{_≡_}
 use mathlib.Core.Bool.{false}
-use Prim.Native.Nat.{ℕ, _-_, _≤_, _<_}
+use Prim.Native.Nat.{ℕ, _-_, _<_}
 use native.Mathlib.Decide.{decLt}
 use native.Mathlib.Omega.{arith}
 use borrow.Author.Tests.{ne-eqb}

@@ -23,7 +23,6 @@ ghost use Rattle.table.specs.Sound.{usedb, tableb};
 ghost use Rattle.scheduler.specs.State.{mostPending, zeroLoad, zeroEntry, withBudget};
 ghost use Rattle.scheduler.specs.Sound.{releaseReach, taskReaches, serverReaches, loadb, zeroLoadb, entryb, allSpentb, stateb};
 ghost use Rattle.scheduler.specs.Choice.{pendingb, firstPending, wantsb, readyb, chosenFrom, choiceBy};
-ghost use Rattle.scheduler.specs.Polling.{lapsed};
 ghost use Rattle.scheduler.specs.Arrive.{fitsb, loadAfter, arrivalBy, arrivedWith, arriveOf};
 ghost use Rattle.scheduler.specs.Tick.{charge, tickOf};
 ghost use Rattle.scheduler.specs.Run.{batchSize, answersOf, stateAfterTicks, batchWith, runOf};
@@ -483,10 +482,10 @@ fn ticks(s: State, n: usize) -> Batch
         handled: 0,
     };
     let mut answers = [zero; State::BATCH];
+    let polled = polled_entries(s.table);
     let table = s.table;
     let mut entries = s.entries;
     let mut refills = s.refills;
-    let polled = polled_entries(table);
     let mut k: usize = 0;
     while k < n {
         let c = chosen(table, entries);
@@ -797,16 +796,6 @@ fn put_in(q: Queue, id: u8, away: Distance) -> Queue
     c.queue
 }
 
-// The entry with its budget given up, where it is a polling server's without work.
-fn lapse(s: Server, e: Entry) -> Entry
-    ensures { λ r. ⌜ r ≡ lapsed s e ⌝ }
-{
-    if gives_up(s.kind, e) {
-        return given_up(e);
-    }
-    e
-}
-
 fn fresh_entry(s: Server) -> Entry
     ensures { λ r. ⌜ r ≡ freshEntry s ⌝ }
 {
@@ -823,7 +812,10 @@ fn fresh_entry(s: Server) -> Entry
         e.arrivals = q;
         j = j + 1;
     }
-    lapse(s, e)
+    if gives_up(s.kind, e) {
+        return given_up(e);
+    }
+    e
 }
 
 fn fresh_refills(t: Table) -> Queue

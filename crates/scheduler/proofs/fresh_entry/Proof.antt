@@ -1,14 +1,15 @@
 -- `scheduler::fresh_entry` meets its contract. The loop's invariant: the loads before j are made, the others left to make, and so with the arrivals to put in
--- (proofs/Freshly.antt).
-use mathlib.Core.Path.{_≡_, refl, _∙_}
+-- (proofs/Freshly.antt). What there is to give up then is given up (proofs/Lapsing.antt).
+use mathlib.Core.Path.{_≡_, refl, sym, ap, _∙_}
 use Prim.Native.Nat.{_≤_, _-_}
 use native.Mathlib.Omega.{arith}
 use borrow.Author.Needs.{needs}
 use lib.ListN.{length, drop, length-map, length-set}
 use Rattle.table.specs.Limits.{entries}
 use Rattle.scheduler.specs.Polling.{lapsed}
-use Rattle.scheduler.specs.Fresh.{putIn, freshQueue, taskAway, freshLoad, freshEntry}
+use Rattle.scheduler.specs.Fresh.{putIn, freshQueue, taskAway, freshLoad, filledEntry, freshEntry}
 use Rattle.scheduler.proofs.Freshly.{put-step, put-end, Filled, filled-step, filled-end, loads-made}
+use Rattle.scheduler.proofs.Lapsing.{lapsed-same, lapsed-given}
 use Rattle.scheduler.proofs.fresh_entry.Statement.{statement}
 use Rattle.scheduler.proofs.fresh_entry.Tie as tie
 
@@ -74,19 +75,39 @@ loop-again c =
       l .loop .inv .4,
     )
 
-lapse-requires : tie.Need-lapse-requires Inv-loop μ-loop
-lapse-requires c κs = search needs
-
-returns : tie.Need-returns Inv-loop μ-loop
-unfolding freshEntry
-returns c =
-    let l = c .before .before in
+-- where the loop has ended it is the entry with its budget of C
+filled-is : (c : tie.After-loop Inv-loop μ-loop) → c .before .loop .e ≡ filledEntry (c .before .before .before .before .args .t1)
+filled-is c =
+    let l = c .before in
     let s = l .before .before .before in
     let ts = s .args .t1 .tasks in
     let h = full s in
     let loads = filled-end freshLoad ts (l .loop .j) (l .loop .e .loads) (l .loop .inv .2) (omega arith) (omega arith) ∙ loads-made ts in
     let arrivals = put-end taskAway ts (l .loop .j) (l .loop .e .arrivals) (l .loop .inv .3) (omega arith) in
-    c .lapse .ensures ∙ (λ i. lapsed (s .args .t1) record { loads = loads i; arrivals = arrivals i; budget = l .loop .inv .4 i })
+    λ i. record { loads = loads i; arrivals = arrivals i; budget = l .loop .inv .4 i }
+
+gives-up-requires : tie.Need-gives-up-requires Inv-loop μ-loop
+gives-up-requires c κs = search needs
+
+given-up-requires : tie.Need-given-up-requires Inv-loop μ-loop
+given-up-requires c κs = search needs
+
+returns : tie.Need-returns Inv-loop μ-loop
+unfolding freshEntry
+returns c =
+    let g = c .before .before in
+    let l = g .before in
+    let s = l .before .before .before .before .args .t1 in
+    let k = sym (g .gives-up .ensures) ∙ c .before .if1 .taken in
+    c .given-up .ensures ∙ sym (lapsed-given s (l .before .loop .e) k) ∙ ap (lapsed s) (filled-is l)
+
+returns-2 : tie.Need-returns-2 Inv-loop μ-loop
+unfolding freshEntry
+returns-2 c =
+    let g = c .before in
+    let l = g .before in
+    let s = l .before .before .before .before .args .t1 in
+    sym (lapsed-same s (l .before .loop .e) (sym (g .gives-up .ensures) ∙ c .if1 .left)) ∙ ap (lapsed s) (filled-is l)
 
 pub fresh-entry-spec : {M : Type 1} → statement M
 fresh-entry-spec =
@@ -107,5 +128,7 @@ fresh-entry-spec =
     add-j
     loop-less
     loop-again
-    lapse-requires
-    returns)
+    gives-up-requires
+    given-up-requires
+    returns
+    returns-2)

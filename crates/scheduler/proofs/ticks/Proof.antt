@@ -24,31 +24,31 @@ use Rattle.scheduler.proofs.ticks.Statement.{statement}
 use Rattle.scheduler.proofs.ticks.Tie as tie
 
 abbrev Inv-loop2 : tie.InvT-loop2
-Inv-loop2 n answers table entries₀ refills₀ polled k c j handled₀ entries refills handled = Refilling table entries₀ refills₀ entries refills handled
+Inv-loop2 n answers polled table entries₀ refills₀ k c j handled₀ entries refills handled = Refilling table entries₀ refills₀ entries refills handled
 
 abbrev μ-loop2 : tie.MeasureT-loop2
-μ-loop2 n answers table entries₀ refills₀ polled k c j handled₀ entries refills handled = leftCount refills
+μ-loop2 n answers polled table entries₀ refills₀ k c j handled₀ entries refills handled = leftCount refills
 
 abbrev Inv-loop3 : tie.InvT-loop3
-Inv-loop3 n answers table entries₀ refills polled k c j handled₀ i₀ entries handled i = Serving table entries₀ handled₀ entries handled i
+Inv-loop3 n answers polled table entries₀ refills k c j handled₀ i₀ entries handled i = Serving table entries₀ handled₀ entries handled i
 
 abbrev μ-loop3 : tie.MeasureT-loop3
-μ-loop3 n answers table entries₀ refills polled k c j handled₀ i₀ next handled i = entries - i
+μ-loop3 n answers polled table entries₀ refills k c j handled₀ i₀ next handled i = entries - i
 
 abbrev Inv-loop4 : tie.InvT-loop4
-Inv-loop4 n answers table entries₀ refills polled k c j handled i p₀ entries p = Lapsing table entries₀ entries p
+Inv-loop4 n answers polled table entries₀ refills k c j handled i p₀ entries p = Lapsing table entries₀ entries p
 
 abbrev μ-loop4 : tie.MeasureT-loop4
-μ-loop4 n answers table entries₀ refills polled k c j handled i p₀ entries p = polled - p
+μ-loop4 n answers polled table entries₀ refills k c j handled i p₀ entries p = polled - p
 
 abbrev Inv-loop : tie.InvT-loop
-Inv-loop n answers₀ table entries₀ refills₀ polled k₀ answers entries refills k =
+Inv-loop n answers₀ polled table entries₀ refills₀ k₀ answers entries refills k =
     let s = stateWith table entries₀ refills₀ in
     let now = stateWith table entries refills in
     (k ≤ n) × Ticking now × (now ≡ stateAfterTicks k s) × (answers ≡ answersIn k s)
 
 abbrev μ-loop : tie.MeasureT-loop
-μ-loop n answers₀ table entries₀ refills₀ polled k₀ answers entries refills k = n - k
+μ-loop n answers₀ polled table entries₀ refills₀ k₀ answers entries refills k = n - k
 
 -- the state of the call, and the one that a tick begins with
 
@@ -121,12 +121,12 @@ refilled-is c =
 
 -- an entry that is looked at
 inside : (c : tie.In-loop4 Inv-loop2 μ-loop2 Inv-loop3 μ-loop3 Inv-loop4 μ-loop4 Inv-loop μ-loop) → c .before .loop4 .p < entries
-inside c = omega (arith, c .loop4-test .taken, outer (handling (serving (c .before))) .before .polled-entries .ensures .0)
+inside c = omega (arith, c .loop4-test .taken, outer (handling (serving (c .before))) .before .before .before .before .polled-entries .ensures .0)
 
 -- THE NEEDS
 
 polled-entries-requires : tie.Need-polled-entries-requires Inv-loop2 μ-loop2 Inv-loop3 μ-loop3 Inv-loop4 μ-loop4 Inv-loop μ-loop
-polled-entries-requires c κs = state-parts (c .before .before .before .args .s) .0 (c .before .before .before .pre .0) .table
+polled-entries-requires c κs = state-parts (c .args .s) .0 (c .pre .0) .table
 
 loop-holds : tie.Need-loop-holds Inv-loop2 μ-loop2 Inv-loop3 μ-loop3 Inv-loop4 μ-loop4 Inv-loop μ-loop
 loop-holds c =
@@ -441,7 +441,7 @@ loop-again c =
     let i = l .loop .inv in
     let r = refilled-is (e .before) in
     let h : entries ≤ e .loop3 .i = o .before .loop3-test .left in
-    let n = tick-state (now l) (ticking l) r (e .loop3 .inv) h (p .loop4 .inv) (l .before .polled-entries .ensures .1) (c .loop4-test .left) in
+    let n = tick-state (now l) (ticking l) r (e .loop3 .inv) h (p .loop4 .inv) (l .before .before .before .before .polled-entries .ensures .1) (c .loop4-test .left) in
     let a = o .choice-of .ensures ∙ charged-is (m .before .before .before) .choice in
     let b = tick-count (now l) (ticking l) r (e .loop3 .inv) h in (
       omega arith,

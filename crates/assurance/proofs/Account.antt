@@ -3,11 +3,16 @@ use mathlib.Core.Path.{_≡_}
 use mathlib.Core.Logic.{_⊎_, inl, inr}
 use mathlib.Core.Bool.{Bool}
 use Prim.Native.Nat.{ℕ, zero, suc, _+_, _-_, _*_, _≤_, _<_}
-use native.Mathlib.Nat.{add-zero, add-suc}
+use native.Mathlib.Nat.{add-zero, add-suc, mod-lt, div-add-mod'}
 use native.Mathlib.Decide.{decLe}
 use native.Mathlib.Omega.{arith}
-use Rattle.assurance.specs.Demand3.{sumBelow, ceil, num}
-use Rattle.assurance.proofs.Sum.{ceil-covers, sum-mono, sum-swap, sum-cut}
+use Rattle.small.specs.Small.{sumBelow}
+use Rattle.small.proofs.Sums.{sum-mono, sum-swap, sum-cut}
+use Rattle.assurance.specs.Demand3.{ceil, num}
+
+pub ceil-covers : (a b : ℕ) → 0 < b → a ≤ ceil a b * b
+unfolding ceil
+ceil-covers a b h = omega (arith, div-add-mod' (a + (b - 1)) b, mod-lt (a + (b - 1)) h)
 
 -- of the n ticks from b on, those of f
 abbrev pub counted : (ℕ → Bool) → ℕ → ℕ → ℕ

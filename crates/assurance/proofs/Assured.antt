@@ -9,7 +9,7 @@ use native.Mathlib.Omega.{arith}
 use lib.Dec.{ltb}
 use lib.ListN.{length, getD, length-map}
 use borrow.Author.Tests.{not-false, lt-ltb}
-use Rattle.refusal.specs.Small.{both}
+use Rattle.small.specs.Small.{both, sumBelow}
 use Rattle.queue.specs.Limits.{longest}
 use Rattle.table.specs.Limits.{mostWork}
 use Rattle.table.specs.Sound.{tableb}
@@ -22,7 +22,7 @@ use Rattle.scheduler.specs.Meaning.{budgetAt, lapsesAt}
 use Rattle.scheduler.specs.declared.State.{State}
 use Rattle.scheduler.specs.declared.Choice.{Choice}
 use Rattle.scheduler.proofs.Laws.{polling-wants, not-polling, working}
-use Rattle.assurance.specs.Demand3.{kindIn, periodIn, budgetIn, sumBelow, mostHeld, sure, Call, Seen, ticksOf, ticksAsked, periodTicks, tickEnd, periodEnds, num, tally, wantsAt, runs, heldOff, declines, workless, Demand3}
+use Rattle.assurance.specs.Demand3.{kindIn, periodIn, budgetIn, mostHeld, sure, Call, Seen, ticksOf, ticksAsked, periodTicks, tickEnd, periodEnds, num, tally, wantsAt, runs, heldOff, declines, workless, Demand3}
 use Rattle.assurance.proofs.Ticks.{Full, Since, Run, starts, most-run, held, least}
 use Rattle.assurance.proofs.History.{noTick, stateAt, choiceAt, endsOf, endAt, ends-whole, part-length, part-count, part-none, period-low, start-full, fresh-row, all-run}
 

@@ -7,6 +7,8 @@ use native.Mathlib.Nat.{zero-add, suc-add}
 use native.Mathlib.Omega.{arith}
 use lib.ListN.{length, take, drop, getD, replicate, length-map, length-take, length-drop}
 use lib.Seq.{drop-cons, getD-take, getD-drop}
+use Rattle.small.specs.Small.{sumBelow}
+use Rattle.small.proofs.Sums.{sum-same, sum-term, sum-front}
 use Rattle.queue.specs.Limits.{longest}
 use Rattle.queue.specs.declared.Queue.{Queue}
 use Rattle.queue.proofs.DueTimes.{away}
@@ -29,8 +31,7 @@ use Rattle.scheduler.proofs.FreshSound.{fresh-sound, fresh-made, fresh-budget, 
 use Rattle.scheduler.proofs.KeptSizes.{tick-sized, arrive-sized, fresh-sized}
 use Rattle.scheduler.proofs.FirstReady.{chosen-first}
 use Rattle.scheduler.proofs.Laws.{tick-spent, tick-filled, arrive-budget, arrive-refills, arrive-table, arrive-pending, tick-table}
-use Rattle.assurance.specs.Demand3.{periodIn, sumBelow, Call, tick, run, arrival, Seen, ticksOf, ticksAsked, tickEnd, endBefore, num, tally}
-use Rattle.assurance.proofs.Sum.{sum-same, sum-term, sum-front}
+use Rattle.assurance.specs.Demand3.{periodIn, Call, tick, run, arrival, Seen, ticksOf, ticksAsked, tickEnd, endBefore, num, tally}
 use Rattle.assurance.proofs.Ticks.{Full, OneTick, Since, Run, at-most}
 use Rattle.assurance.proofs.RunTicks.{seen-tick, run-ticks}
 

@@ -1,4 +1,3 @@
-pub mod Sum
 pub mod Account
 pub mod Ticks
 pub mod RunTicks

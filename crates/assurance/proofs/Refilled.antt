@@ -10,7 +10,7 @@ use native.Mathlib.Omega.{arith}
 use lib.Dec.{eqb}
 use lib.ListN.{getD}
 use borrow.Author.Tests.{lt-ltb, eq-eqb, eqb-true, eqb-false, not-false}
-use Rattle.refusal.proofs.Small.{contrary}
+use Rattle.small.proofs.Tests.{contrary}
 use Rattle.queue.specs.Limits.{longest}
 use Rattle.table.specs.Limits.{mostWork}
 use Rattle.table.specs.Table.{zeroServer}

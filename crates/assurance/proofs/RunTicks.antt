@@ -6,7 +6,7 @@ use mathlib.Core.Logic.{_≢_}
 use Prim.Native.Nat.{ℕ, zero, suc}
 use lib.ListN.{take, replicate}
 use borrow.Author.Tests.{ne-eqb}
-use Rattle.refusal.proofs.Small.{contrary}
+use Rattle.small.proofs.Tests.{contrary}
 use Rattle.scheduler.specs.Sound.{stateb}
 use Rattle.scheduler.specs.Tick.{tickOf}
 use Rattle.scheduler.specs.Run.{answersOf, stateAfterTicks, ticksIn}

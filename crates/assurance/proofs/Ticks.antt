@@ -7,8 +7,9 @@ use native.Mathlib.Decide.{decLt}
 use native.Mathlib.Omega.{arith}
 use lib.Dec.{ltb, eqb}
 use borrow.Author.Tests.{eqb-true, eq-eqb, ltb-true, lt-ltb}
-use Rattle.refusal.specs.Small.{pick, both}
-use Rattle.refusal.proofs.Small.{both-right, both-false}
+use Rattle.small.specs.Small.{pick, both, sumBelow}
+use Rattle.small.proofs.Tests.{both-right, both-false}
+use Rattle.small.proofs.Sums.{sum-term}
 use Rattle.table.specs.declared.Table.{Table}
 use Rattle.scheduler.specs.State.{entryAt}
 use Rattle.scheduler.specs.Choice.{somePending, servesb}
@@ -16,8 +17,7 @@ use Rattle.scheduler.specs.Meaning.{readyAt, budgetAt, lapsesAt, refillAway, Hi
 use Rattle.scheduler.specs.declared.State.{State}
 use Rattle.scheduler.specs.declared.Choice.{Choice}
 use Rattle.scheduler.specs.declared.Choice.the-variants.{Idle, Burning, Running}
-use Rattle.assurance.specs.Demand3.{periodIn, budgetIn, sumBelow, mostHeld, sure, num, wantsAt}
-use Rattle.assurance.proofs.Sum.{sum-term}
+use Rattle.assurance.specs.Demand3.{periodIn, budgetIn, mostHeld, sure, num, wantsAt}
 use Rattle.assurance.proofs.Account.{Account, counted, most, busy, last, charged-to}
 
 -- THE INTERFACE: what the scheduler's laws say of one tick, for demand 3 to hold of every row of ticks

@@ -7,7 +7,7 @@ use mathlib.Core.Logic.{_≢_}
 use Prim.Native.Nat.{ℕ, zero, suc, _+_, _-_, _*_, _/_, _≤_, min}
 use lib.Dec.{ltb, eqb}
 use lib.ListN.{length, take, drop, getD}
-use Rattle.refusal.specs.Small.{pick, both}
+use Rattle.small.specs.Small.{pick, both, sumBelow}
 use Rattle.table.specs.Table.{zeroServer}
 use Rattle.table.specs.declared.Table.{Table}
 use Rattle.scheduler.specs.State.{serverAt, entryAt}
@@ -33,11 +33,6 @@ periodIn t i = getD (t .servers) i zeroServer .period .0
 
 abbrev pub budgetIn : Table → ℕ → ℕ
 budgetIn t i = getD (t .servers) i zeroServer .budget .0
-
--- f 0 + f 1 + .. + f (n - 1)
-unfoldable pub sumBelow : (ℕ → ℕ) → ℕ → ℕ
-sumBelow f zero = 0
-sumBelow f (suc n) = sumBelow f n + f n
 
 -- a / b, rounded up
 unfoldable pub ceil : ℕ → ℕ → ℕ

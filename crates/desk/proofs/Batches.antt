@@ -8,7 +8,7 @@ use native.Mathlib.Nat.{zero-add, add-zero, suc-add}
 use lib.Dec.{eqb}
 use lib.ListN.{length, replicate}
 use borrow.Author.Tests.{eqb-true, eqb-false, le-ltb}
-use Rattle.refusal.specs.Small.{pick, padded}
+use Rattle.small.specs.Small.{pick, padded}
 use Rattle.refusal.specs.Refusal.{none}
 use Rattle.scheduler.specs.Sound.{stateb}
 use Rattle.scheduler.specs.Tick.{tickOf}
@@ -23,7 +23,6 @@ use Rattle.lines.specs.Lines.{tickLine, answerLines}
 use Rattle.desk.specs.Desk.{tickLimit, deskWith, ranWith, ranOf}
 use Rattle.desk.specs.Trace.{leftLines, behindLeft, batchText, batchesText, behindBatches}
 use Rattle.desk.specs.declared.Desk.{Desk}
-use Rattle.desk.proofs.Counts.{ticks-most, ticks-some}
 
 -- TICKS IN A ROW
 
@@ -78,7 +77,7 @@ batch-is d h l = rw (h, le-ltb tickLimit (d .ran + d .left) l, run-done (d .stat
 
 module _ (d : Desk) where
   all : size d + (d .left - size d) ≡ d .left
-  all = omega (arith, ticks-most (d .left))
+  all = omega arith
 
   -- its lines and those of what is left are the lines of all
   batch-text : answerLines (d .ran) (size d) (row d) ++ leftLines (next d) ≡ leftLines d
@@ -114,13 +113,13 @@ pub batches : (f k : ℕ) (d : Desk) → stateb (d .state) ≡ true → d .ran +
     → (batchesText f k d ≡ leftLines d) × (behindBatches f d ≡ behindLeft d)
 batches zero k d h l m = none-left d (omega arith)
 batches (suc f) k d h l m =
-    go (eqb (d .left) 0) refl (batches f k (next d) (ticks-sound (size d) (d .state) h) (omega (arith, ticks-most (d .left))))
+    go (eqb (d .left) 0) refl (batches f k (next d) (ticks-sound (size d) (d .state) h) (omega arith))
   where
     go : (b : Bool) → eqb (d .left) 0 ≡ b → (next d .left ≤ f → BatchesAre f k (next d)) → let r = ranOf d in
         (pick b [] (batchText k r (batchesText f k (r .desk))) ≡ leftLines d) × (pick b d (behindBatches f (r .desk)) ≡ behindLeft d)
     go true e again = none-left d (eqb-true (d .left) 0 e)
     go false e again =
         let some : 1 ≤ d .left = omega (arith, eqb-false (d .left) 0 e) in
-        let (text, behind) = again (omega (arith, ticks-some (d .left) some)) in
+        let (text, behind) = again (omega (arith, some)) in
         let lines = answerLines (d .ran) (size d) (row d) in
         rw (batch-is d h l) (ap (λ (t : List ℕ). lines ++ t) text ∙ batch-text d, behind ∙ batch-behind d)

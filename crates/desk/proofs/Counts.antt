@@ -4,40 +4,23 @@ use mathlib.Core.Bool.{Bool, true, false}
 use mathlib.Core.List.{[]}
 use Prim.Native.Nat.{ℕ, _+_, _≤_}
 use native.Mathlib.Omega.{arith}
-use lib.Dec.{leb, ltb, eqb}
-use borrow.Author.Tests.{leb-false, ltb-false}
-use Rattle.refusal.specs.Small.{pick}
+use lib.Dec.{ltb, eqb}
+use borrow.Author.Tests.{ltb-false}
+use Rattle.small.specs.Small.{pick}
 use Rattle.refusal.specs.Refusal.{none, firstOf}
 use Rattle.scheduler.specs.Run.{batchSize, answersOf, stateAfterTicks, ticksIn, runChecks, batchWith, runOf}
 use Rattle.scheduler.specs.declared.State.{State}
-use Rattle.scheduler.proofs.Runs.{ticks-few}
 use Rattle.desk.specs.Desk.{tickLimit}
 
--- a run has no more ticks than it is asked for
-pub ticks-most : (k : ℕ) → ticksIn k ≤ k
-ticks-most k = go (leb k batchSize) refl
-  where
-    go : (b : Bool) → leb k batchSize ≡ b → pick b k batchSize ≤ k
-    go true e = omega arith
-    go false e = omega (arith, leb-false k batchSize e)
-
--- nor has what the call answers, and never more than 64
+-- a run has no more ticks than it is asked for, and never more than 64
 pub count-most : (s : State) (k : ℕ) → (runOf s k .count ≤ k) × (runOf s k .count ≤ batchSize)
 unfolding runOf
 count-most s k = go (eqb (firstOf (runChecks s) .number) 0)
   where
     go : (b : Bool) → let n = ticksIn k in let t = pick b (batchWith none (answersOf n s) n (stateAfterTicks n s)) (batchWith (firstOf (runChecks s)) [] 0 s) in
         (t .count ≤ k) × (t .count ≤ batchSize)
-    go true = (ticks-most k, ticks-few k)
+    go true = (omega arith, omega arith)
     go false = (omega arith, omega arith)
-
--- where ticks are left, a batch has one
-pub ticks-some : (k : ℕ) → 1 ≤ k → 1 ≤ ticksIn k
-ticks-some k h = go (leb k batchSize)
-  where
-    go : (b : Bool) → 1 ≤ pick b k batchSize
-    go true = h
-    go false = omega arith
 
 -- THE TICKS THAT MAY BE RUN: those that are left, none where they would pass the limit
 

@@ -6,7 +6,7 @@ use Prim.Native.Nat.{ℕ, _+_, _<_}
 use native.Mathlib.Omega.{arith}
 use lib.Dec.{ltb, eqb}
 use borrow.Author.Tests.{ltb-false}
-use Rattle.refusal.specs.Small.{pick}
+use Rattle.small.specs.Small.{pick}
 use Rattle.refusal.specs.Numbers.{ticksPassed}
 use Rattle.queue.specs.Limits.{longest}
 use Rattle.table.specs.Limits.{mostWork}
@@ -24,7 +24,6 @@ use Rattle.desk.specs.Desk.{tickLimit, deskWith, met, openOf, askedOf, a
 use Rattle.desk.specs.Trace.{behindLeft}
 use Rattle.desk.specs.Meaning.{Kept}
 use Rattle.desk.specs.declared.Desk.{Desk}
-use Rattle.desk.proofs.Counts.{ticks-most, ticks-some}
 use Rattle.desk.proofs.Batches.{batch-is}
 use Rattle.desk.proofs.Refusals.{run-on-accepted}
 
@@ -81,7 +80,7 @@ module _ (d : Desk) (w : Kept d) where
   pub batch-kept : Kept (ranOf d .desk)
   batch-kept =
       rw (batch-is d (w .sound) (w .within))
-      record { sound = ticks-sound (ticksIn (d .left)) (d .state) (w .sound); within = omega (arith, w .within, ticks-most (d .left)) }
+      record { sound = ticks-sound (ticksIn (d .left)) (d .state) (w .sound); within = omega (arith, w .within) }
 
   -- and all of them
   pub ticks-kept : Kept (behindLeft d)
@@ -91,4 +90,4 @@ module _ (d : Desk) (w : Kept d) where
 pub left-falls : (d : Desk) → ranOf d .refusal .number ≡ 0 → 0 < d .left → ranOf d .desk .left < d .left
 left-falls d a h =
     let (s, l) = run-on-accepted d .0 a in
-    rw (batch-is d s l) (omega (arith, ticks-some (d .left) h, ticks-most (d .left)))
+    rw (batch-is d s l) (omega arith)

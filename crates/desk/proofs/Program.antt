@@ -7,7 +7,7 @@ use native.Mathlib.Omega.{arith}
 use lib.Dec.{eqb}
 use lib.ListN.{length, take, drop, length-drop}
 use borrow.Author.Tests.{eqb-true}
-use Rattle.refusal.specs.Small.{pick}
+use Rattle.small.specs.Small.{pick}
 use Rattle.field.specs.Field.{fieldOf}
 use Rattle.lines.specs.Lines.{headerText, lineText}
 use Rattle.lines.specs.declared.Line.the-variants.{Refused}

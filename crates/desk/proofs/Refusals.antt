@@ -8,10 +8,10 @@ use Prim.Native.Nat.{ℕ, _+_, _≤_, _<_}
 use native.Mathlib.Omega.{arith}
 use lib.Dec.{ltb, eqb}
 use borrow.Author.Tests.{eqb-true, eqb-false, ne-eqb, lt-ltb, le-ltb, ltb-true, ltb-false, not-true, not-false}
-use Rattle.refusal.specs.Small.{pick}
+use Rattle.small.specs.Small.{pick}
+use Rattle.small.proofs.Tests.{contrary}
 use Rattle.refusal.specs.Numbers.{ticksPassed, unsound}
 use Rattle.refusal.specs.Refusal.{none, firstOf}
-use Rattle.refusal.proofs.Small.{contrary}
 use Rattle.refusal.proofs.Decided.{Decided, decided}
 use Rattle.refusal.proofs.Exactly.{other, given-by, number-when, none-when, no-place}
 use Rattle.refusal.proofs.Joined.{Ranged, ranged-other}

@@ -3,7 +3,7 @@ use mathlib.Core.Bool.{Bool, true, false, not}
 use mathlib.Core.List.{List, [], _∷_}
 use Prim.Native.Nat.{ℕ, _+_, _-_}
 use lib.Dec.{ltb, eqb}
-use Rattle.refusal.specs.Small.{pick, padded}
+use Rattle.small.specs.Small.{pick, padded}
 use Rattle.refusal.specs.Numbers.{ticksPassed, unsound}
 use Rattle.refusal.specs.Refusal.{none, Check, check, firstOf}
 use Rattle.refusal.specs.declared.Refusal.{Refusal}

@@ -4,7 +4,7 @@ use mathlib.Core.List.{List, [], _∷_, _++_}
 use Prim.Native.Nat.{ℕ, zero, suc, _+_}
 use lib.Dec.{eqb}
 use lib.ListN.{length, take, drop}
-use Rattle.refusal.specs.Small.{pick}
+use Rattle.small.specs.Small.{pick}
 use Rattle.field.specs.Field.{fieldOf}
 use Rattle.scheduler.specs.Run.{answersOf, stateAfterTicks}
 use Rattle.lines.specs.Lines.{headerText, answerLines, lineText, endLine}

@@ -9,7 +9,7 @@ ghost use mathlib.Core.Path.{_≡_};
 ghost use mathlib.Core.Bool.{true, false};
 ghost use Prim.Native.Nat.{_+_};
 ghost use lib.Dec.{ltb, eqb};
-ghost use Rattle.refusal.specs.Small.{pick};
+ghost use Rattle.small.specs.Small.{pick};
 ghost use Rattle.refusal.specs.Numbers.{ticksPassed};
 ghost use Rattle.lines.specs.declared.Line.the-variants.{Refused};
 ghost use Rattle.desk.specs.Desk.{tickLimit, deskWith, met, openOf, askedOf, arrivedOf, soundFirst, messageOf, ranOf};

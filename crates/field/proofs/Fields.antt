@@ -12,7 +12,7 @@ use lib.Dec.{leb}
 use lib.ListN.{length, take, drop, length-append, length-drop, take-append-drop, List·getD-eq-default}
 use lib.Seq.{sets, sets-eq, length-take-le, take-at, drop-at, drop-drop, getD-drop}
 use borrow.Author.Tests.{le-leb, lt-leb, leb-true}
-use Rattle.refusal.specs.Small.{pick}
+use Rattle.small.specs.Small.{pick}
 use Rattle.field.specs.Field.{byteOf, fieldOf, big, over}
 use Rattle.field.specs.Bytes.{Bytes}
 

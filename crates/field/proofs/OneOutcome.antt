@@ -1,7 +1,7 @@
 -- ONE OUTCOME: any two outcomes that a public function's contract allows are equal. Stated over the contracts themselves: `f.Post κs a r e` is what the
 -- contract of `f` says of the arguments a, the result r and the parameters e as they are at exit. Assumes nothing.
 use denote.Ref.{now}
-use Rattle.refusal.proofs.Outcome.{One, same}
+use Rattle.small.proofs.Outcome.{One, same}
 use Rattle.field.proofs.Written.whole.Reads as whole
 use Rattle.field.proofs.Written.refused.Reads as refused
 use Rattle.field.proofs.byte.Reads as byte

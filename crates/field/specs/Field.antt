@@ -3,7 +3,7 @@ use mathlib.Core.List.{List, [], _∷_, _++_}
 use Prim.Native.Nat.{ℕ, zero, suc, _+_, _*_, _/_, _%_, _^_}
 use lib.Dec.{leb}
 use lib.ListN.{length, take, drop, getD}
-use Rattle.refusal.specs.Small.{pick}
+use Rattle.small.specs.Small.{pick}
 
 -- the byte at k; what stands past the end reads as 0
 abbrev pub byteOf : ℕ → List ℕ → ℕ

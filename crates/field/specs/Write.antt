@@ -3,7 +3,7 @@ use mathlib.Core.List.{List}
 use Prim.Native.Nat.{ℕ}
 use lib.Dec.{eqb}
 use lib.ListN.{length}
-use Rattle.refusal.specs.Small.{pick}
+use Rattle.small.specs.Small.{pick}
 use Rattle.refusal.specs.Refusal.{none}
 use Rattle.refusal.specs.declared.Refusal.{Refusal}
 use Rattle.field.specs.Field.{over}

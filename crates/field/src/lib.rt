@@ -3,8 +3,7 @@
 use refusal::Refusal;
 ghost use mathlib.Core.Path.{_≡_};
 ghost use mathlib.Core.List.{[], _∷_};
-ghost use Prim.Native.Nat.{_≤_};
-ghost use lib.ListN.{drop, getD};
+ghost use lib.ListN.{drop};
 ghost use Rattle.refusal.specs.Refusal.{none, refused};
 ghost use Rattle.field.specs.Field.{byteOf, fieldOf, big, over};
 ghost use Rattle.field.specs.Write.{writtenWith};

@@ -1,15 +1,12 @@
 -- Laws of the lines of a batch: those of one answer more end with its line, where there are fewer answers than asked for all are written, and no line is
 -- longer than its room. Assumes nothing.
 use mathlib.Core.Path.{_≡_, refl, sym, ap, _∙_}
-use mathlib.Core.Bool.{Bool, true, false}
 use mathlib.Core.List.{List, [], _∷_, _++_, append-assoc, append-nil}
-use Prim.Native.Nat.{ℕ, zero, suc, _+_, _*_, _≤_, _<_}
+use Prim.Native.Nat.{ℕ, zero, suc, _+_, _*_, _≤_, _<_, min}
 use native.Mathlib.Nat.{add-zero, le-of-suc-le-suc, not-suc-le-zero}
+use native.Mathlib.Decide.{decLe}
 use native.Mathlib.Omega.{arith}
-use lib.Dec.{leb}
 use lib.ListN.{length, length-append, getD}
-use borrow.Author.Tests.{leb-true, leb-false}
-use Rattle.refusal.specs.Small.{pick}
 use Rattle.scheduler.specs.declared.Choice.{Choice}
 use Rattle.scheduler.specs.declared.Choice.the-variants.{Idle, Burning, Running}
 use Rattle.scheduler.specs.declared.Answer.{Answer}
@@ -36,20 +33,12 @@ lines-all n zero (x ∷ xs) h = absurd (not-suc-le-zero h)
 lines-all n (suc k) (x ∷ xs) h = ap (λ (ys : List ℕ). tickLine n (x .choice) ++ ys) (lines-all (suc n) k xs (le-of-suc-le-suc h))
 
 -- as many as asked for, or all
-pub lines-least : (n k m : ℕ) (xs : List Answer) → length xs ≡ m → answerLines n k xs ≡ answerLines n (pick (leb k m) k m) xs
-lines-least n k m xs l = go (leb k m) refl
+pub lines-least : (n k m : ℕ) (xs : List Answer) → length xs ≡ m → answerLines n k xs ≡ answerLines n (min k m) xs
+lines-least n k m xs l = go (decLe k m)
   where
-    go : (b : Bool) → leb k m ≡ b → answerLines n k xs ≡ answerLines n (pick b k m) xs
-    go true e = refl
-    go false e = rw (← l) (lines-all n k xs (omega (arith, leb-false k m e)))
-
--- no more than there are
-pub least-most : (k m : ℕ) → pick (leb k m) k m ≤ m
-least-most k m = go (leb k m) refl
-  where
-    go : (b : Bool) → leb k m ≡ b → pick b k m ≤ m
-    go true e = leb-true k m e
-    go false e = omega arith
+    go : Dec (k ≤ m) → answerLines n k xs ≡ answerLines n (min k m) xs
+    go (yes h) = let e : min k m ≡ k = omega arith in rw e
+    go (no h) = let e : min k m ≡ length xs = omega arith in rw e (lines-all n k xs (omega arith))
 
 -- HOW LONG THEY ARE
 

@@ -11,7 +11,7 @@ use native.Mathlib.Omega.{arith}
 use lib.Dec.{ltb}
 use lib.ListN.{length, getD, length-append}
 use borrow.Author.Tests.{ltb-true, ltb-false, lt-ltb}
-use Rattle.refusal.specs.Small.{pick}
+use Rattle.small.specs.Small.{pick}
 use Rattle.lines.specs.Decimal.{mostDigits, digit, digitsIn, decimal, valueFrom, valueOf, Digits}
 use Rattle.lines.specs.Lines.{markText}
 

@@ -4,7 +4,7 @@
 use mathlib.Core.List.{List}
 use Prim.Native.Nat.{ℕ}
 use denote.Ref.{now}
-use Rattle.refusal.proofs.Outcome.{One, same}
+use Rattle.small.proofs.Outcome.{One, same}
 use Rattle.field.specs.declared.Written.{Written}
 use Rattle.lines.proofs.header.Reads as header
 use Rattle.lines.proofs.message_line.Reads as message-line

@@ -10,7 +10,6 @@ ghost use mathlib.Core.List.{[], _∷_};
 ghost use Prim.Native.Nat.{_+_, _≤_, _<_};
 ghost use lib.Dec.{leb};
 ghost use lib.ListN.{length};
-ghost use Rattle.refusal.specs.Small.{pick};
 ghost use Rattle.field.specs.Field.{over};
 ghost use Rattle.lines.specs.Decimal.{decimal};
 ghost use Rattle.lines.specs.Lines.{space, minus, headerText, markText, choiceText, tickLine, answerLines, lineText, endLine, putOf};
@@ -68,7 +67,7 @@ pub fn ticks(
 ) -> Written
     ensures { λ r. ⌜ (r ≡ putOf at (answerLines first count answers) (now (out .entry))) × (now (out .exit) ≡ over at (answerLines first count answers) (now (out .entry))) ⌝ }
 {
-    let n = least(count, State::BATCH);
+    let n = small::least(count, State::BATCH);
     if !fits(out, at, BATCH_ROOM) {
         if !fits(out, at, batch_size(first, answers, n)) {
             return Written::refused(Refusal::BUFFER_SHORT);
@@ -148,15 +147,6 @@ fn fits(out: &[u8], at: usize, n: usize) -> bool
         return false;
     }
     at <= out.len() - n
-}
-
-fn least(a: usize, b: usize) -> usize
-    ensures { λ r. ⌜ r ≡ pick (leb a b) a b ⌝ }
-{
-    if a <= b {
-        return a;
-    }
-    b
 }
 
 fn batch_size(first: u32, answers: [Answer; State::BATCH], n: usize) -> usize

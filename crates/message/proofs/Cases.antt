@@ -8,10 +8,10 @@ use native.Mathlib.Omega.{arith}
 use lib.Dec.{eqb}
 use lib.ListN.{length, drop}
 use borrow.Author.Tests.{eq-eqb, ne-eqb, eqb-true, eqb-false, lt-ltb, le-ltb, not-true, not-false}
-use Rattle.refusal.specs.Small.{pick}
+use Rattle.small.specs.Small.{pick}
+use Rattle.small.proofs.Tests.{contrary}
 use Rattle.refusal.specs.Numbers.{messageCut, messageLength, messageVersion, messageKind}
 use Rattle.refusal.specs.Refusal.{none, refused}
-use Rattle.refusal.proofs.Small.{contrary}
 use Rattle.field.specs.Field.{byteOf, fieldOf, big, over}
 use Rattle.field.proofs.Fields.{over-over}
 use Rattle.message.specs.Message.{rawBytes, zeroMessage, readWith, otherKind, readOf}

@@ -2,7 +2,7 @@
 -- themselves: `f.Post κs a r e` is what the contract of `f` says of the arguments a, the result r and the parameters e as they are at exit. Assumes nothing.
 use mathlib.Core.Path.{_≡_}
 use denote.Ref.{now}
-use Rattle.refusal.proofs.Outcome.{One, same}
+use Rattle.small.proofs.Outcome.{One, same}
 use Rattle.message.specs.Meaning.{writeOf, writtenTo}
 use Rattle.message.proofs.read.Reads as read
 use Rattle.message.proofs.write.Reads as write

@@ -7,7 +7,7 @@ use Prim.Native.Nat.{ℕ, _≤_, _<_}
 use native.Mathlib.Omega.{arith}
 use lib.ListN.{length, drop}
 use borrow.Author.Tests.{eq-eqb, ne-eqb, eqb-true, eqb-false, lt-ltb, le-ltb, ltb-true, ltb-false, not-true, not-false}
-use Rattle.refusal.specs.Small.{pick}
+use Rattle.small.specs.Small.{pick}
 use Rattle.refusal.specs.Numbers.{messageCut, messageLength, messageVersion, messageKind, bufferShort}
 use Rattle.refusal.specs.Refusal.{none, Check, firstOf}
 use Rattle.refusal.proofs.Decided.{Decided, decided}

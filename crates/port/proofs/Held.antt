@@ -7,13 +7,13 @@ use mathlib.Core.Logic.{_≢_}
 use Prim.Native.Nat.{ℕ, zero, suc, _+_, _-_, _/_, _%_, _≤_, _<_}
 use native.Mathlib.Omega.{arith}
 use lib.Dec.{leb, ltb, eqb}
-use lib.ListN.{length, take, drop, replicate}
+use lib.ListN.{length, take, drop}
 use lib.Seq.{take-all}
 use borrow.Author.Tests.{le-ltb, ltb-false, leb-true, eqb-true, eqb-false, eq-eqb}
-use Rattle.refusal.specs.Small.{pick}
+use Rattle.small.specs.Small.{pick, each}
+use Rattle.small.proofs.Tests.{both-left, both-right, either-true, contrary}
+use Rattle.small.proofs.All.{All, all-first, all-both, all-append, all-replicate}
 use Rattle.refusal.specs.declared.Refusal.{Refusal}
-use Rattle.refusal.proofs.Small.{both-left, both-right, either-true, contrary}
-use Rattle.refusal.proofs.Rows.{All}
 use Rattle.queue.specs.Limits.{cellCount, filler, maxGap, longest}
 use Rattle.queue.specs.Row.{Event, event, cell, cellsOf, queueOf, eventAt, eventsFrom, eventsOf}
 use Rattle.queue.specs.Sound.{hasb, soundb}
@@ -30,22 +30,10 @@ use Rattle.queue.proofs.Unchanged.{insert-unchanged, remove-unchanged, clock-un
 use Rattle.queue.proofs.Keeps.{empty-sound, empty-events}
 use Rattle.queue.proofs.DueTimes.{there, insert-others, remove-others, clock-others, take-first, take-others, push-back-others}
 use Rattle.port.specs.Layout.{queueSize}
-use Rattle.port.specs.Words.{word, manyIn, manyWords, cellIn, cellWord, queueIn, queueWords}
+use Rattle.port.specs.Words.{word, manyIn, cellIn, cellWord, queueIn, queueWords}
 use Rattle.port.specs.Exports.{heldAfter, heldQueue}
-use Rattle.port.proofs.Many.{Back, all-first, many-back, many-held}
+use Rattle.port.proofs.Many.{Back, many-back, many-held}
 use Rattle.port.proofs.Storing.{held-again, insert-gives, remove-gives, clock-gives, take-gives, push-back-gives}
-
-all-both : {A : Type 0} {P Q R : A → Type 0} → ((x : A) → P x → Q x → R x) → (xs : List A) → All P xs → All Q xs → All R xs
-all-both f [] a b = tt
-all-both f (x ∷ xs) a b = (f x (a .0) (b .0), all-both f xs (a .1) (b .1))
-
-all-append : {A : Type 0} (P : A → Type 0) (xs ys : List A) → All P xs → All P ys → All P (xs ++ ys)
-all-append P [] ys a b = b
-all-append P (x ∷ xs) ys a b = (a .0, all-append P xs ys (a .1) b)
-
-all-replicate : {A : Type 0} (P : A → Type 0) (n : ℕ) (x : A) → P x → All P (replicate n x)
-all-replicate P zero x h = tt
-all-replicate P (suc n) x h = (h, all-replicate P n x h)
 
 -- THE CELLS OF A SOUND QUEUE
 
@@ -107,8 +95,8 @@ cells-back (c ∷ cs) a = (record { whole = refl; back = λ rest. cell-there c (
 pub queue-back : (q : Queue) (rest : List ℕ) → length (q .cells) ≡ cellCount → All Small (q .cells) → queueIn (queueWords q ++ rest) ≡ q
 unfolding queueIn queueWords
 queue-back q rest l a =
-    let e : manyIn 1 first cellCount (manyWords one (q .cells) ++ rest) ≡ q .cells =
-    subst (λ (n : ℕ). manyIn 1 first n (manyWords one (q .cells) ++ rest) ≡ q .cells) l (many-back 1 one first (q .cells) rest (cells-back (q .cells) a)) in
+    let e : manyIn 1 first cellCount (each one (q .cells) ++ rest) ≡ q .cells =
+    subst (λ (n : ℕ). manyIn 1 first n (each one (q .cells) ++ rest) ≡ q .cells) l (many-back 1 one first (q .cells) rest (cells-back (q .cells) a)) in
     λ i. record { cells = e i; len = q .len }
 
 -- an id that is a byte: of an event, of a cell

@@ -9,9 +9,9 @@ use lib.Dec.{leb, ltb, eqb}
 use lib.ListN.{length, take, drop, getD, length-drop}
 use lib.Seq.{take-add, take-all, drop-at, drop-drop}
 use borrow.Author.Tests.{le-ltb, leb-true, eqb-true}
-use Rattle.refusal.specs.Small.{pick, both}
-use Rattle.refusal.proofs.Small.{both-left, both-right, contrary}
-use Rattle.refusal.proofs.Rows.{All}
+use Rattle.small.specs.Small.{pick, both, each}
+use Rattle.small.proofs.Tests.{both-left, both-right, contrary}
+use Rattle.small.proofs.All.{All}
 use Rattle.queue.specs.Limits.{maxGap, longest}
 use Rattle.queue.specs.Row.{Event, eventsOf}
 use Rattle.queue.specs.declared.Queue.{Queue}
@@ -44,7 +44,7 @@ use Rattle.scheduler.proofs.FreshSound.{fresh-made}
 use Rattle.scheduler.proofs.KeptSizes.{tick-sized, arrive-sized, fresh-sized}
 use Rattle.port.specs.Layout.{queueSize, loadSize, entrySize, taskSize, serverSize, tableSize, stateSize}
 use Rattle.port.specs.Words.{word, manyIn, queueIn, loadIn, entryIn, releaseIn, taskIn, kindIn, serverIn, tableIn, stateIn}
-use Rattle.port.specs.Words.{manyWords, queueWords, loadWords, entryWords, taskWords, serverWords, tableWords, stateWords}
+use Rattle.port.specs.Words.{queueWords, loadWords, entryWords, taskWords, serverWords, tableWords, stateWords}
 use Rattle.port.specs.Exports.{heldAfter}
 use Rattle.port.proofs.Many.{Back, many-back, many-held}
 use Rattle.port.proofs.Storing.{queue-length, held-again}
@@ -56,8 +56,8 @@ use Rattle.port.proofs.Held.{ByteEvent, queue-back, sound-small, queue-
 
 -- all that are so many, read one behind the other from their words
 back-all : {A : Type 0} (size n : ℕ) (f : A → List ℕ) (g : List ℕ → A) (xs : List A) (rest : List ℕ) → length xs ≡ n → All (Back size f g) xs
-    → manyIn size g n (manyWords f xs ++ rest) ≡ xs
-back-all size n f g xs rest l a = subst (λ (m : ℕ). manyIn size g m (manyWords f xs ++ rest) ≡ xs) l (many-back size f g xs rest a)
+    → manyIn size g n (each f xs ++ rest) ≡ xs
+back-all size n f g xs rest l a = subst (λ (m : ℕ). manyIn size g m (each f xs ++ rest) ≡ xs) l (many-back size f g xs rest a)
 
 -- TABLES, WRITTEN, THEN READ
 
@@ -127,7 +127,7 @@ loads-back (l ∷ ls) a = (record { whole = refl; back = λ rest. load-back l re
 entry-back : (e : Entry) (rest : List ℕ) → FullEntry e → EntryRange e → entryIn (entryWords e ++ rest) ≡ e
 unfolding entryIn entryWords
 entry-back e rest f r =
-    let ls = manyWords loadWords (e .loads) in
+    let ls = each loadWords (e .loads) in
     let qs = queueWords (e .arrivals) in
     let parts : (ls ++ qs) ++ rest ≡ ls ++ (qs ++ rest) = append-assoc ls qs rest in
     let loads = back-all loadSize entries loadWords loadIn (e .loads) (qs ++ rest) (f .loads) (loads-back (e .loads) (r .loads)) in
@@ -151,7 +151,7 @@ state-there s z h =
     let r = state-range s f h in
     let ts = tableWords (s .table) in
     let qs = queueWords (s .refills) in
-    let es = manyWords entryWords (s .entries) in
+    let es = each entryWords (s .entries) in
     let n = table-length (s .table) (f .table) in
     let refills : drop tableSize (ts ++ (qs ++ es)) ≡ qs ++ es = drop-at ts (qs ++ es) tableSize n in
     let last : drop (tableSize + queueSize) (ts ++ (qs ++ es)) ≡ es ++ [] =

@@ -6,22 +6,14 @@ use Prim.Native.Nat.{ℕ, zero, suc, _+_, _*_, _≤_, _<_}
 use native.Mathlib.Nat.{add-zero, mul-zero, mul-suc, mul-le-mul-left, add-comm, not-suc-le-zero}
 use native.Mathlib.Numerals.{add-one}
 use native.Mathlib.Omega.{arith}
-use lib.ListN.{length, take, drop, getD, set, replicate, length-append, length-drop, length-set, length-replicate}
-use lib.Seq.{take-suc, take-all, take-add, take-suc-set, drop-at, drop-length, drop-drop, getD-drop, length-take-le}
-use Rattle.refusal.proofs.Rows.{All, all-at}
+use lib.ListN.{length, take, drop, getD, set, replicate, length-drop, length-set, length-replicate}
+use lib.Seq.{take-all, take-add, take-suc-set, drop-at, drop-length, drop-drop, getD-drop, length-take-le}
+use Rattle.small.proofs.All.{All, all-at, all-first}
+use Rattle.small.specs.Small.{each}
+use Rattle.small.proofs.Each.{Sizes, each-more, each-length}
 use Rattle.field.specs.Field.{over}
 use Rattle.field.proofs.Fields.{over-over, over-length, over-nil, over-start}
-use Rattle.port.specs.Words.{word, manyIn, manyWords}
-
--- what holds of every thing holds of each of a list
-pub all-of : {A : Type 0} {P : A → Type 0} → ((x : A) → P x) → (xs : List A) → All P xs
-all-of h [] = tt
-all-of h (x ∷ xs) = (h x, all-of h xs)
-
-pub all-first : {A : Type 0} (P : A → Type 0) (n : ℕ) (xs : List A) → All P xs → All P (take n xs)
-all-first P zero xs a = tt
-all-first P (suc n) [] a = tt
-all-first P (suc n) (x ∷ xs) a = (a .0, all-first P n xs (a .1))
+use Rattle.port.specs.Words.{word, manyIn}
 
 -- the place of the one behind the first, of the one at i + 1
 next-place : (size i : ℕ) → size * suc i ≡ size + size * i
@@ -82,30 +74,11 @@ module _ {A : Type 0} (size : ℕ) (g : List ℕ → A) where
 -- WRITING
 
 module _ {A : Type 0} (f : A → List ℕ) where
-  many-append : (xs ys : List A) → manyWords f (xs ++ ys) ≡ manyWords f xs ++ manyWords f ys
-  many-append [] ys = refl
-  many-append (x ∷ xs) ys = rw (many-append xs ys, append-assoc)
-
-  -- the words of one more
-  pub words-more : (xs : List A) (i : ℕ) (z : A) → i < length xs → manyWords f (take (i + 1) xs) ≡ manyWords f (take i xs) ++ f (getD xs i z)
-  words-more xs i z h = rw (add-one, take-suc xs i z, many-append, append-nil)
-
-  -- each takes so many words
-  abbrev pub Sizes : ℕ → List A → Type 0
-  Sizes size xs = All (λ x. length (f x) ≡ size) xs
-
-  pub sizes-of : (size : ℕ) → ((x : A) → length (f x) ≡ size) → (xs : List A) → Sizes size xs
-  sizes-of size h xs = all-of h xs
-
-  pub many-length : (size : ℕ) (xs : List A) → Sizes size xs → length (manyWords f xs) ≡ size * length xs
-  many-length size [] a = sym (mul-zero size)
-  many-length size (x ∷ xs) a = rw (length-append, a .0, many-length size xs (a .1), next-place)
-
   -- A loop that writes the words of the things xs over a buffer from the place `at` on: before the one at i, those of the first i are written. `out` is the
   -- buffer then.
   pub record Wrote (xs : List A) (at : ℕ) (buf : List ℕ) (i : ℕ) (out : List ℕ) : Type 0 where
     pub few : i ≤ length xs
-    pub words : out ≡ over at (manyWords f (take i xs)) buf
+    pub words : out ≡ over at (each f (take i xs)) buf
 
   module _ (xs : List A) (at : ℕ) (buf : List ℕ) where
     pub wrote-none : at ≤ length buf → Wrote xs at buf 0 buf
@@ -114,17 +87,17 @@ module _ {A : Type 0} (f : A → List ℕ) where
     pub wrote-length : {i : ℕ} {out : List ℕ} → Wrote xs at buf i out → length out ≡ length buf
     wrote-length r = rw (r .words) (over-length at _ buf)
 
-    pub wrote-all : {i : ℕ} {out : List ℕ} → Wrote xs at buf i out → length xs ≤ i → out ≡ over at (manyWords f xs) buf
+    pub wrote-all : {i : ℕ} {out : List ℕ} → Wrote xs at buf i out → length xs ≤ i → out ≡ over at (each f xs) buf
     wrote-all {i} r h = rw (take-all i xs h) at (r .words)
 
     -- where the buffer has room for all: room for the one at i, and one more is written; k is the place that it is written to
-    module _ (size : ℕ) (each : Sizes size xs) (room : at + size * length xs ≤ length buf)
+    module _ (size : ℕ) (sized : Sizes f size xs) (room : at + size * length xs ≤ length buf)
         {i : ℕ} {out : List ℕ} (r : Wrote xs at buf i out) (h : i < length xs) (k : ℕ) (place : k ≡ at + size * i) where
       fits : k + size ≤ length buf
       fits = omega (arith, mul-le-mul-left size h, mul-suc size i)
 
-      before : length (manyWords f (take i xs)) ≡ size * i
-      before = rw (many-length size (take i xs) (all-first (λ x. length (f x) ≡ size) i xs each), length-take-le i xs (omega arith))
+      before : length (each f (take i xs)) ≡ size * i
+      before = rw (each-length f size (take i xs) (all-first (λ x. length (f x) ≡ size) i xs sized), length-take-le i xs (omega arith))
 
       pub wrote-room : k + size ≤ length out
       wrote-room = rw (wrote-length r) fits
@@ -132,10 +105,10 @@ module _ {A : Type 0} (f : A → List ℕ) where
       pub wrote-more : (z : A) (out' : List ℕ) → out' ≡ over k (f (getD xs i z)) out → Wrote xs at buf (i + 1) out'
       wrote-more z out' e =
           let x = getD xs i z in
-          let ws = manyWords f (take i xs) in
+          let ws = each f (take i xs) in
           let here : k ≡ at + length ws = omega (arith, before) in
-          let l : length (f x) ≡ size = all-at (λ y. length (f y) ≡ size) z xs each i h in
-          record { few = omega arith; words = rw (e, words-more xs i z h, r .words, here) (over-over at ws (f x) buf (omega (arith, fits))) }
+          let l : length (f x) ≡ size = all-at (λ y. length (f y) ≡ size) z xs sized i h in
+          record { few = omega arith; words = rw (e, each-more f xs i z h, r .words, here) (over-over at ws (f x) buf (omega (arith, fits))) }
 
 -- the same where words hs were written first: `out` is the buffer behind both
 pub behind : (at k : ℕ) (hs ws buf mid out : List ℕ) → mid ≡ over at hs buf → out ≡ over k ws mid → k ≡ at + length hs → k + length ws ≤ length buf
@@ -154,15 +127,15 @@ module _ {A : Type 0} (size : ℕ) (f : A → List ℕ) (g : List ℕ → A) whe
     pub whole : length (f x) ≡ size
     pub back : (rest : List ℕ) → g (f x ++ rest) ≡ x
 
-  pub many-back : (xs : List A) (rest : List ℕ) → All Back xs → manyIn size g (length xs) (manyWords f xs ++ rest) ≡ xs
+  pub many-back : (xs : List A) (rest : List ℕ) → All Back xs → manyIn size g (length xs) (each f xs ++ rest) ≡ xs
   many-back [] rest a = refl
   many-back (x ∷ xs) rest a =
-      let e = append-assoc (f x) (manyWords f xs) rest in
-      rw (e, a .0 .back (manyWords f xs ++ rest), drop-at (f x) (manyWords f xs ++ rest) size (a .0 .whole), many-back xs rest (a .1))
+      let e = append-assoc (f x) (each f xs) rest in
+      rw (e, a .0 .back (each f xs ++ rest), drop-at (f x) (each f xs ++ rest) size (a .0 .whole), many-back xs rest (a .1))
 
   -- READ, THEN WRITTEN: where each thing that is read and of which P holds has the words that it is read from
   module _ (P : A → Type 0) (held : (ws : List ℕ) → size ≤ length ws → P (g ws) → f (g ws) ≡ take size ws) where
-    pub many-held : (n : ℕ) (ws : List ℕ) → size * n ≤ length ws → All P (manyIn size g n ws) → manyWords f (manyIn size g n ws) ≡ take (size * n) ws
+    pub many-held : (n : ℕ) (ws : List ℕ) → size * n ≤ length ws → All P (manyIn size g n ws) → each f (manyIn size g n ws) ≡ take (size * n) ws
     many-held zero ws h a = rw mul-zero
     many-held (suc n) ws h a =
         let m : size + size * n ≤ length ws = rw (← next-place size n) h in

@@ -5,8 +5,8 @@ use mathlib.Core.Bool.{Bool}
 use mathlib.Core.List.{List}
 use Prim.Native.Nat.{ℕ}
 use denote.Ref.{now}
+use Rattle.small.proofs.Outcome.{One, same}
 use Rattle.refusal.specs.declared.Refusal.{Refusal}
-use Rattle.refusal.proofs.Outcome.{One, same}
 use Rattle.port.proofs.ribascenzo_queue_empty.Reads as queue-empty
 use Rattle.port.proofs.ribascenzo_queue_sound.Reads as queue-sound
 use Rattle.port.proofs.ribascenzo_queue_insert.Reads as queue-insert

@@ -1,23 +1,24 @@
 -- What the soundness of a table and of a state says of each of their parts, used or not: enough that its words hold it. Assumes nothing.
 use mathlib.Core.Path.{_≡_, refl, ap}
-use mathlib.Core.Bool.{Bool, true}
+use mathlib.Core.Bool.{true}
 use mathlib.Core.List.{List, [], _∷_}
 use mathlib.Core.Logic.{⊎-elim}
-use Prim.Native.Nat.{ℕ, zero, suc, _≤_, _<_}
+use Prim.Native.Nat.{ℕ, suc, _≤_, _<_}
 use native.Mathlib.Omega.{arith}
 use lib.Dec.{leb, eqb}
 use lib.ListN.{length, getD}
 use lib.Seq.{take-length}
 use borrow.Author.Tests.{leb-true, eqb-true}
-use Rattle.refusal.proofs.Small.{both-left, both-right}
-use Rattle.refusal.proofs.Rows.{All, all-take}
+use Rattle.small.proofs.Tests.{both-left, both-right}
+use Rattle.small.proofs.All.{All, all-take}
+use Rattle.small.proofs.Used.{used-all}
 use Rattle.queue.specs.Limits.{cellCount, maxGap, longest}
 use Rattle.queue.specs.Sound.{soundb}
 use Rattle.queue.specs.Holds.{holdsb}
 use Rattle.queue.specs.declared.Queue.{Queue}
 use Rattle.queue.proofs.Soundness.{sound-is, sound-full}
 use Rattle.table.specs.Limits.{mostWork, entries}
-use Rattle.table.specs.Sound.{rangeb, usedb, kindb, releaseb, taskb, arrivalb, zeroTaskb, serverb, zeroServerb, tableb}
+use Rattle.table.specs.Sound.{rangeb, kindb, releaseb, taskb, arrivalb, zeroTaskb, serverb, zeroServerb, tableb}
 use Rattle.table.specs.declared.Release.{Release}
 use Rattle.table.specs.declared.Release.the-variants.{OnArrival, Periodic}
 use Rattle.table.specs.declared.Task.{Task}
@@ -34,13 +35,6 @@ use Rattle.scheduler.proofs.Stated.{held, entry-stated, stated}
 use Rattle.port.specs.Layout.{wordLimit}
 use Rattle.port.proofs.Storing.{sound-few}
 use Rattle.port.proofs.Sizing.{FullEntry, FullServer, FullState, sized-full}
-
--- what holds of every entry that is good, and of every one that is zero, holds of all
-used-all : {A : Type 0} (P : A → Type 0) (good none : A → Bool) → ((x : A) → good x ≡ true → P x) → ((x : A) → none x ≡ true → P x)
-    → (xs : List A) (n : ℕ) → usedb good none xs n ≡ true → All P xs
-used-all P good none g z [] n h = tt
-used-all P good none g z (x ∷ xs) zero h = (z x (both-left _ _ h), used-all P good none g z xs zero (both-right (none x) _ h))
-used-all P good none g z (x ∷ xs) (suc n) h = (g x (both-left _ _ h), used-all P good none g z xs n (both-right (good x) _ h))
 
 -- TABLES
 

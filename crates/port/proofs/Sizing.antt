@@ -9,7 +9,9 @@ use mir.Val.{Val}
 use denote.Array.{each as owned}
 use denote.Shadow.{shadow}
 use denote.Struct.Declared.{row}
-use Rattle.refusal.proofs.Rows.{All, all-take, all-at}
+use Rattle.small.proofs.All.{All, all-take, all-at}
+use Rattle.small.specs.Small.{each}
+use Rattle.small.proofs.Each.{Sizes, sizes-of, each-length}
 use Rattle.queue.specs.Limits.{cellCount}
 use Rattle.table.specs.Limits.{entries}
 use Rattle.table.specs.Table.{zeroServer}
@@ -26,8 +28,8 @@ use Rattle.scheduler.proofs.Entry as entry
 use Rattle.scheduler.proofs.State as state
 use Rattle.port.specs.Layout.{queueSize, loadSize, entrySize, taskSize, serverSize, tableSize, stateSize}
 use Rattle.port.specs.Words.{word, manyIn, cellIn, queueIn, loadIn, entryIn, taskIn, serverIn, tableIn, stateIn}
-use Rattle.port.specs.Words.{manyWords, loadWords, entryWords, taskWords, serverWords, tableWords, stateWords}
-use Rattle.port.proofs.Many.{many-count, Sizes, sizes-of, many-length}
+use Rattle.port.specs.Words.{loadWords, entryWords, taskWords, serverWords, tableWords, stateWords}
+use Rattle.port.proofs.Many.{many-count}
 use Rattle.port.proofs.Storing.{queue-length}
 
 -- A THING WITH ALL THE ENTRIES OF ITS ARRAYS
@@ -137,8 +139,8 @@ state-in-sized ws =
 
 -- ITS WORDS
 
-pub loads-length : (e : Entry) → FullEntry e → length (manyWords loadWords (e .loads)) ≡ loadSize * entries
-loads-length e h = omega (arith, many-length loadWords loadSize (e .loads) (sizes-of loadWords loadSize (λ l. refl) (e .loads)), h .loads)
+pub loads-length : (e : Entry) → FullEntry e → length (each loadWords (e .loads)) ≡ loadSize * entries
+loads-length e h = omega (arith, each-length loadWords loadSize (e .loads) (sizes-of loadWords loadSize (λ l. refl) (e .loads)), h .loads)
 
 pub entry-length : (e : Entry) → FullEntry e → length (entryWords e) ≡ entrySize
 unfolding entryWords
@@ -146,7 +148,7 @@ entry-length e h = simp length-append (omega (arith, loads-length e h, queue-len
 
 pub server-length : (s : Server) → FullServer s → length (serverWords s) ≡ serverSize
 unfolding serverWords
-server-length s h = omega (arith, many-length taskWords taskSize (s .tasks) (sizes-of taskWords taskSize (λ t. refl) (s .tasks)), h .tasks)
+server-length s h = omega (arith, each-length taskWords taskSize (s .tasks) (sizes-of taskWords taskSize (λ t. refl) (s .tasks)), h .tasks)
 
 pub servers-sizes : (ss : List Server) → All FullServer ss → Sizes serverWords serverSize ss
 servers-sizes [] a = tt
@@ -158,10 +160,10 @@ entries-sizes (e ∷ es) a = (entry-length e (a .0), entries-sizes es (a .1))
 
 pub table-length : (t : Table) → FullTable t → length (tableWords t) ≡ tableSize
 unfolding tableWords
-table-length t h = omega (arith, many-length serverWords serverSize (t .servers) (servers-sizes (t .servers) (h .servers)), h .count)
+table-length t h = omega (arith, each-length serverWords serverSize (t .servers) (servers-sizes (t .servers) (h .servers)), h .count)
 
 pub state-length : (s : State) → FullState s → length (stateWords s) ≡ stateSize
 unfolding stateWords
 state-length s h =
-    let last = many-length entryWords entrySize (s .entries) (entries-sizes (s .entries) (h .entries)) in
+    let last = each-length entryWords entrySize (s .entries) (entries-sizes (s .entries) (h .entries)) in
     simp length-append (omega (arith, table-length (s .table) (h .table), queue-length (s .refills) (h .cells), last, h .count))

@@ -9,7 +9,8 @@ use native.Mathlib.Omega.{arith}
 use lib.Dec.{eqb}
 use lib.ListN.{length}
 use borrow.Author.Tests.{ne-eqb, eqb-true, eqb-false}
-use Rattle.refusal.specs.Small.{pick}
+use Rattle.small.specs.Small.{pick}
+use Rattle.small.proofs.Each.{sizes-of, each-length}
 use Rattle.refusal.specs.declared.Refusal.{Refusal}
 use Rattle.field.specs.Field.{over}
 use Rattle.queue.specs.Limits.{cellCount, maxGap, longest}
@@ -24,7 +25,7 @@ use Rattle.queue.proofs.Keeps.{insert-sound, remove-sound, clock-sound, take-so
 use Rattle.port.specs.Layout.{wordLimit, queueSize}
 use Rattle.port.specs.Words.{cellWord, queueWords}
 use Rattle.port.specs.Exports.{heldAfter, heldQueue}
-use Rattle.port.proofs.Many.{sizes-of, many-length, over-all}
+use Rattle.port.proofs.Many.{over-all}
 
 -- ACCEPTED OR REFUSED: x is the answer's refusal, r the definition's
 
@@ -51,7 +52,7 @@ pub queue-length : (q : Queue) → length (q .cells) ≡ cellCount → length (q
 unfolding queueWords
 queue-length q h =
     let one : Cell → List ℕ = λ c. cellWord c ∷ [] in
-    omega (arith, many-length one 1 (q .cells) (sizes-of one 1 (λ c. refl) (q .cells)))
+    omega (arith, each-length one 1 (q .cells) (sizes-of one 1 (λ c. refl) (q .cells)))
 
 -- a sound queue's count fits into a word
 pub sound-few : (q : Queue) → soundb maxGap longest q ≡ true → q .len < wordLimit

@@ -3,7 +3,7 @@ use mathlib.Core.Bool.{not}
 use mathlib.Core.List.{List, [], _∷_}
 use Prim.Native.Nat.{ℕ}
 use lib.Dec.{ltb, eqb}
-use Rattle.refusal.specs.Small.{pick}
+use Rattle.small.specs.Small.{pick}
 use Rattle.refusal.specs.Numbers.{unsound, noServer, noTask}
 use Rattle.refusal.specs.Refusal.{Check, check, firstOf}
 use Rattle.refusal.specs.declared.Refusal.{Refusal}

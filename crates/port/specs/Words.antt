@@ -4,7 +4,7 @@ use mathlib.Core.List.{List, [], _∷_, _++_}
 use Prim.Native.Nat.{ℕ, zero, suc, _+_, _*_, _/_, _%_}
 use lib.Dec.{ltb, eqb}
 use lib.ListN.{drop, getD}
-use Rattle.refusal.specs.Small.{pick, both}
+use Rattle.small.specs.Small.{pick, both, each}
 use Rattle.queue.specs.Limits.{cellCount, filler}
 use Rattle.queue.specs.Row.{cell}
 use Rattle.queue.specs.declared.Cell.{Cell}
@@ -20,7 +20,7 @@ use Rattle.scheduler.specs.State.{load}
 use Rattle.scheduler.specs.declared.Load.{Load}
 use Rattle.scheduler.specs.declared.Entry.{Entry}
 use Rattle.scheduler.specs.declared.State.{State}
-use Rattle.port.specs.Layout.{wordLimit, queueSize, loadSize, entrySize, taskSize, serverSize, tableSize}
+use Rattle.port.specs.Layout.{queueSize, loadSize, entrySize, taskSize, serverSize, tableSize}
 
 -- the word at a place; 0 past the end
 abbrev pub word : ℕ → List ℕ → ℕ
@@ -30,10 +30,6 @@ word k ws = getD ws k 0
 abbrev pub manyIn : {A : Type 0} → ℕ → (List ℕ → A) → ℕ → List ℕ → List A
 manyIn size f zero ws = []
 manyIn size f (suc n) ws = f ws ∷ manyIn size f n (drop size ws)
-
-abbrev pub manyWords : {A : Type 0} → (A → List ℕ) → List A → List ℕ
-manyWords f [] = []
-manyWords f (x ∷ xs) = f x ++ manyWords f xs
 
 -- QUEUES: the number of cells, then each cell: its id times 65,536, and its gap
 
@@ -47,7 +43,7 @@ unfoldable pub queueIn : List ℕ → Queue
 queueIn ws = record { cells = manyIn 1 (λ v. cellIn (word 0 v)) cellCount (drop 1 ws); len = word 0 ws }
 
 unfoldable pub queueWords : Queue → List ℕ
-queueWords q = q .len ∷ manyWords (λ c. cellWord c ∷ []) (q .cells)
+queueWords q = q .len ∷ each (λ c. cellWord c ∷ []) (q .cells)
 
 -- ENTRIES: the budget, then each task's pending work and lost count, then the queue of arrivals
 
@@ -65,7 +61,7 @@ entryIn ws = record {
 }
 
 unfoldable pub entryWords : Entry → List ℕ
-entryWords e = e .budget .0 ∷ (manyWords loadWords (e .loads) ++ queueWords (e .arrivals))
+entryWords e = e .budget .0 ∷ (each loadWords (e .loads) ++ queueWords (e .arrivals))
 
 -- TABLES: the number of servers, then each server: its kind, the number of its tasks, P, C, then each task: its release, E, T, O
 
@@ -93,13 +89,13 @@ serverIn ws = record {
 }
 
 unfoldable pub serverWords : Server → List ℕ
-serverWords s = s .kind ∷ s .count ∷ s .period .0 ∷ s .budget .0 ∷ manyWords taskWords (s .tasks)
+serverWords s = s .kind ∷ s .count ∷ s .period .0 ∷ s .budget .0 ∷ each taskWords (s .tasks)
 
 unfoldable pub tableIn : List ℕ → Table
 tableIn ws = record { servers = manyIn serverSize serverIn entries (drop 1 ws); count = word 0 ws }
 
 unfoldable pub tableWords : Table → List ℕ
-tableWords t = t .count ∷ manyWords serverWords (t .servers)
+tableWords t = t .count ∷ each serverWords (t .servers)
 
 -- STATES: the table, the queue of replenishments, the entries
 
@@ -111,4 +107,4 @@ stateIn ws = record {
 }
 
 unfoldable pub stateWords : State → List ℕ
-stateWords s = tableWords (s .table) ++ (queueWords (s .refills) ++ manyWords entryWords (s .entries))
+stateWords s = tableWords (s .table) ++ (queueWords (s .refills) ++ each entryWords (s .entries))

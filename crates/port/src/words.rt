@@ -22,7 +22,7 @@ ghost use Rattle.table.specs.Table.{releaseNumber, periodOf, offsetOf};
 ghost use Rattle.table.specs.Sound.{tableb};
 ghost use Rattle.scheduler.specs.Sound.{stateb};
 ghost use Rattle.port.specs.Words.{releaseIn, kindIn, cellIn, cellWord, queueIn, queueWords, loadIn, loadWords, entryIn, entryWords, taskIn, taskWords, serverIn, serverWords, tableIn, tableWords, stateIn, stateWords};
-ghost use Rattle.port.specs.Layout.{wordLimit, queueSize, loadSize, entrySize, taskSize, serverSize, tableSize, stateSize};
+ghost use Rattle.port.specs.Layout.{wordLimit, queueSize, loadSize, entrySize, taskSize, serverSize, tableSize};
 
 // How many words each takes.
 pub(crate) const QUEUE: usize = 1 + Queue::CELLS;

@@ -9,8 +9,9 @@ use lib.Dec.{leb}
 use lib.ListN.{length, getD, take, drop, replicate, drop-of-length-le}
 use lib.Seq.{drop-append-add, drop-cons, getD-take, length-take-le, take-nil}
 use borrow.Author.Tests.{leb-true, lt-leb}
-use Rattle.refusal.specs.Small.{pick, both, padded}
-use Rattle.refusal.proofs.Small.{both-false, take-padded}
+use Rattle.small.specs.Small.{pick, both, padded}
+use Rattle.small.proofs.Padded.{take-padded}
+use Rattle.small.proofs.Tests.{both-false}
 use Rattle.queue.specs.Limits.{cellCount}
 use Rattle.queue.specs.Row.{cell, cellsOf, queueOf}
 use Rattle.queue.specs.declared.Cell.{Cell}

@@ -8,9 +8,9 @@ use Prim.Native.Nat.{ℕ, _+_, _≤_, _<_}
 use native.Mathlib.Omega.{arith}
 use lib.Dec.{leb, eqb}
 use borrow.Author.Tests.{ne-eqb, leb-true, leb-false, not-true}
-use Rattle.refusal.specs.Small.{pick}
+use Rattle.small.specs.Small.{pick}
+use Rattle.small.proofs.Tests.{both-left}
 use Rattle.refusal.specs.Refusal.{firstOf}
-use Rattle.refusal.proofs.Small.{both-left}
 use Rattle.queue.specs.Row.{Event, event, cellsOf, eventsOf}
 use Rattle.queue.specs.Sound.{hasb, distinctb}
 use Rattle.queue.specs.Calls.{withEvent, distanceOf}

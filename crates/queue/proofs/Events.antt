@@ -7,8 +7,8 @@ use native.Mathlib.Omega.{arith}
 use lib.Dec.{leb, eqb}
 use lib.ListN.{length, length-append}
 use borrow.Author.Tests.{eq-eqb, ne-eqb, le-leb, leb-true, leb-false, eqb-true, eqb-false, not-true}
-use Rattle.refusal.specs.Small.{pick}
-use Rattle.refusal.proofs.Small.{both-left, both-right, neither-left, neither-right, contrary}
+use Rattle.small.specs.Small.{pick}
+use Rattle.small.proofs.Tests.{both-left, both-right, neither-left, neither-right, contrary}
 use Rattle.queue.specs.Limits.{filler}
 use Rattle.queue.specs.Row.{Event, event, cellsFor, normal}
 use Rattle.queue.specs.Sound.{hasb, distinctb, nearb}

@@ -8,7 +8,7 @@ use native.Mathlib.Omega.{arith}
 use native.Mathlib.Nat.{div-eq-of-lt, add-div-right}
 use lib.Dec.{eqb}
 use lib.ListN.{length, length-append}
-use Rattle.refusal.specs.Small.{pick}
+use Rattle.small.specs.Small.{pick}
 use Rattle.queue.specs.Limits.{filler}
 use Rattle.queue.specs.Row.{event, cellsOf, eventsOf, eventsFrom, normal}
 use Rattle.queue.specs.Sound.{soundb}

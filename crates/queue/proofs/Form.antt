@@ -8,8 +8,8 @@ use native.Mathlib.Nat.{zero-mul, suc-mul}
 use lib.Dec.{leb, eqb}
 use lib.ListN.{replicate}
 use borrow.Author.Tests.{eq-eqb, le-leb, leb-true, eqb-true, eqb-false}
-use Rattle.refusal.specs.Small.{pick, both}
-use Rattle.refusal.proofs.Small.{both-left, both-right}
+use Rattle.small.specs.Small.{pick, both}
+use Rattle.small.proofs.Tests.{both-left, both-right}
 use Rattle.queue.specs.Limits.{filler}
 use Rattle.queue.specs.Row.{Event, event, cell, eventsFrom, chain, cellsFor, normal}
 use Rattle.queue.specs.Sound.{sameCells}

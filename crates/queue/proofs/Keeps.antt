@@ -9,9 +9,9 @@ use native.Mathlib.Omega.{arith}
 use lib.Dec.{leb, eqb}
 use lib.ListN.{length, length-append}
 use borrow.Author.Tests.{ne-eqb, le-leb, eqb-true, eqb-false}
+use Rattle.small.proofs.Tests.{both-right}
 use Rattle.refusal.specs.Refusal.{firstOf}
 use Rattle.refusal.specs.declared.Refusal.{Refusal}
-use Rattle.refusal.proofs.Small.{both-right}
 use Rattle.queue.specs.Limits.{cellCount, filler}
 use Rattle.queue.specs.Row.{Event, event, cellsOf, queueOf, eventsOf, normal}
 use Rattle.queue.specs.Sound.{sameb, hasb, distinctb, nearb, soundb}

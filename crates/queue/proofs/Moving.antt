@@ -7,7 +7,7 @@ use native.Mathlib.Omega.{arith}
 use native.Mathlib.Numerals.{add-one}
 use lib.Dec.{eqb}
 use borrow.Author.Tests.{ne-eqb}
-use Rattle.refusal.specs.Small.{pick}
+use Rattle.small.specs.Small.{pick}
 use lib.ListN.{length, getD, take, drop, set, replicate, length-append, length-drop, length-replicate, replicate-append-replicate}
 use lib.Seq.{set-comm, sets, sets-eq, take-take, length-take-le, take-append-seam, getD-take, getD-drop, take-set-le, drop-set-lt, drop-drop}
 use Rattle.queue.specs.Limits.{cellCount, filler}

@@ -8,7 +8,7 @@ use native.Mathlib.Nat.{div-eq-of-lt, div-mul-le-self, lt-div-mul-add, zero-mul,
 use lib.Dec.{eqb}
 use lib.Arith.{digits-div}
 use lib.ListN.{length, length-append}
-use Rattle.refusal.specs.Small.{pick}
+use Rattle.small.specs.Small.{pick}
 use Rattle.queue.specs.Limits.{filler}
 use Rattle.queue.specs.Row.{Event, event, cell, eventsFrom, chain, cellsFor, normal}
 use Rattle.queue.specs.declared.Cell.{Cell}

@@ -12,7 +12,7 @@ use contract.Monad.{Fun, conj, conjR, fact, fact-mono, guard-conj}
 use denote.Ref.{now}
 use denote.Triple.Entry.{Args, Res}
 use denote.Triple.Clauses.{Ended, AtExit, Clauses}
-use Rattle.refusal.proofs.Outcome.{One, same}
+use Rattle.small.proofs.Outcome.{One, same}
 use Rattle.refusal.specs.declared.Refusal.{Refusal}
 use Rattle.queue.specs.declared.Queue.{Queue}
 use Rattle.queue.specs.declared.Took.{Took}

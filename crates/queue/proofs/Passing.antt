@@ -9,8 +9,8 @@ use lib.Dec.{eqb}
 use lib.ListN.{length, getD, take, drop, set, length-append, length-drop, take-append-drop}
 use lib.Seq.{drop-drop, drop-append-add, drop-append-le, length-take-le, take-at, take-take}
 use borrow.Author.Tests.{eqb-true, le-leb, lt-leb, le-ltb}
-use Rattle.refusal.specs.Small.{pick}
-use Rattle.refusal.proofs.Small.{contrary}
+use Rattle.small.specs.Small.{pick}
+use Rattle.small.proofs.Tests.{contrary}
 use Rattle.queue.specs.Limits.{cellCount, filler}
 use Rattle.queue.specs.Row.{cell, cellsOf, chain}
 use Rattle.queue.specs.Steps.{restStep, placeFrom, placeCells, placeStep}

@@ -11,8 +11,8 @@ use lib.Dec.{leb, ltb, eqb}
 use lib.ListN.{length, getD, drop, length-drop}
 use lib.Seq.{drop-drop}
 use borrow.Author.Tests.{leb-true, leb-false, lt-leb, le-ltb}
-use Rattle.refusal.specs.Small.{pick}
-use Rattle.refusal.proofs.Small.{contrary}
+use Rattle.small.specs.Small.{pick}
+use Rattle.small.proofs.Tests.{contrary}
 use Rattle.refusal.specs.Numbers.{noRoom}
 use Rattle.refusal.specs.Refusal.{check, firstOf}
 use Rattle.queue.specs.Limits.{cellCount, filler}

@@ -9,8 +9,8 @@ use native.Mathlib.Nat.{suc-mul}
 use lib.Dec.{leb, ltb, eqb}
 use lib.ListN.{length, drop, set}
 use borrow.Author.Tests.{eq-eqb, ne-eqb, le-leb, lt-leb, lt-ltb, le-ltb, leb-true, eqb-true, eqb-false}
-use Rattle.refusal.specs.Small.{pick, both, padded}
-use Rattle.refusal.proofs.Small.{both-left, both-right}
+use Rattle.small.specs.Small.{pick, both, padded}
+use Rattle.small.proofs.Tests.{both-left, both-right}
 use Rattle.queue.specs.Limits.{cellCount, filler}
 use Rattle.queue.specs.Row.{Event, cell, cellsOf, queueOf, eventsOf, chain, fillersFor, cellsFor, normal}
 use Rattle.queue.specs.Sound.{nearb}

@@ -9,7 +9,7 @@ use native.Mathlib.Nat.{div-mul-le-self, le-div-iff-mul-le, add-mul}
 use lib.Dec.{leb}
 use lib.ListN.{length, length-append}
 use borrow.Author.Tests.{le-leb, leb-true, eqb-false}
-use Rattle.refusal.proofs.Small.{both-left, both-right}
+use Rattle.small.proofs.Tests.{both-left, both-right}
 use Rattle.queue.specs.Limits.{maxGap, cellCount, longest, filler}
 use Rattle.queue.specs.Row.{Event, event, cellsOf, eventsOf, normal}
 use Rattle.queue.specs.Sound.{nearb, soundb}

@@ -8,10 +8,10 @@ use native.Mathlib.Omega.{arith}
 use lib.Dec.{ltb, eqb}
 use lib.ListN.{getD}
 use borrow.Author.Tests.{le-ltb, ne-eqb, eqb-true, ltb-true}
-use Rattle.refusal.specs.Small.{both}
+use Rattle.small.specs.Small.{both}
+use Rattle.small.proofs.Tests.{both-false}
 use Rattle.refusal.specs.Numbers.{eventDue, nothingDue}
 use Rattle.refusal.specs.Refusal.{none, refused}
-use Rattle.refusal.proofs.Small.{both-false}
 use Rattle.queue.specs.Limits.{filler}
 use Rattle.queue.specs.Row.{cell, cellsOf, queueOf, eventsOf}
 use Rattle.queue.specs.Sound.{soundb, hasb}

@@ -9,8 +9,8 @@ use lib.Dec.{leb, eqb}
 use lib.ListN.{length, getD, take, drop, set, replicate, length-set, length-drop, getD-replicate, take-append-drop}
 use lib.Seq.{getD-set-same, getD-set-other, getD-take, take-suc}
 use borrow.Author.Tests.{eq-eqb, ne-eqb, le-leb, lt-leb, leb-true, leb-false, eqb-true, eqb-false, not-true}
-use Rattle.refusal.specs.Small.{pick, both, padded}
-use Rattle.refusal.proofs.Small.{both-left, both-right, both-false, both-swap, either-true, either-false, contrary}
+use Rattle.small.specs.Small.{pick, both, padded}
+use Rattle.small.proofs.Tests.{both-left, both-right, both-false, both-swap, either-true, either-false, contrary}
 use Rattle.queue.specs.Limits.{cellCount, filler}
 use Rattle.queue.specs.Row.{Event, event, cell, cellsOf, queueOf, eventAt, eventsOf, eventsFrom, normal}
 use Rattle.queue.specs.Sound.{sameCells, sameb, hasb, distinctb, nearb, soundb}

@@ -7,8 +7,8 @@ use native.Mathlib.Omega.{arith}
 use lib.Dec.{leb, eqb}
 use lib.ListN.{length, length-append, length-replicate}
 use borrow.Author.Tests.{eq-eqb, le-leb, leb-true, eqb-true}
-use Rattle.refusal.specs.Small.{padded}
-use Rattle.refusal.proofs.Small.{both-left, both-right}
+use Rattle.small.specs.Small.{padded}
+use Rattle.small.proofs.Tests.{both-left, both-right}
 use Rattle.queue.specs.Limits.{cellCount}
 use Rattle.queue.specs.Row.{Event, cell, cellsOf, queueOf, eventsOf, eventsFrom, normal}
 use Rattle.queue.specs.Sound.{sameb, distinctb, nearb, soundb}

@@ -10,7 +10,7 @@ use lib.Dec.{eqb}
 use lib.ListN.{length, getD, take, drop, set, replicate, length-drop}
 use lib.Seq.{length-take-le, getD-append-add, getD-drop, drop-cons, set-at}
 use borrow.Author.Tests.{eq-eqb, ne-eqb, lt-ltb, le-ltb, le-leb, eqb-true, eqb-false}
-use Rattle.refusal.specs.Small.{pick, both, padded}
+use Rattle.small.specs.Small.{pick, both, padded}
 use Rattle.queue.specs.Limits.{cellCount, filler}
 use Rattle.queue.specs.Row.{Event, cell, cellsOf, queueOf, eventsOf, chain, cellsFor, normal}
 use Rattle.queue.specs.Calls.{dueb, earlier, dueId, withoutDue, formed}

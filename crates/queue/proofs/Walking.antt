@@ -9,8 +9,8 @@ use lib.Dec.{eqb}
 use lib.ListN.{length, take, drop, length-drop}
 use lib.Seq.{take-all, take-add, drop-drop}
 use borrow.Author.Tests.{le-leb}
-use Rattle.refusal.specs.Small.{pick}
-use Rattle.refusal.proofs.Small.{contrary}
+use Rattle.small.specs.Small.{pick}
+use Rattle.small.proofs.Tests.{contrary}
 use Rattle.queue.specs.Limits.{maxGap, filler}
 use Rattle.queue.specs.Row.{Event, event, eventsOf, eventsFrom}
 use Rattle.queue.specs.Sound.{hasb}

@@ -12,8 +12,8 @@ use lib.Dec.{leb, eqb}
 use lib.ListN.{length, getD, take, drop, replicate, length-drop, length-replicate, getD-replicate, take-append-drop}
 use lib.Seq.{ext-getD, getD-drop}
 use borrow.Author.Tests.{ne-eqb, le-leb, leb-true, leb-false, eqb-true, eqb-false, not-true}
-use Rattle.refusal.specs.Small.{pick, padded}
-use Rattle.refusal.proofs.Small.{both-left, both-right, neither-left, neither-right, contrary}
+use Rattle.small.specs.Small.{pick, padded}
+use Rattle.small.proofs.Tests.{both-left, both-right, neither-left, neither-right, contrary}
 use Rattle.queue.specs.Limits.{cellCount, filler}
 use Rattle.queue.specs.Row.{Event, event, cell, cellsOf, queueOf, eventsOf, eventsFrom, chain, cellsFor, normal}
 use Rattle.queue.specs.Sound.{sameb, hasb, distinctb, nearb, soundb}

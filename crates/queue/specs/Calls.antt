@@ -5,7 +5,7 @@ use mathlib.Core.List.{List, [], _∷_}
 use Prim.Native.Nat.{ℕ, _+_, _-_}
 use lib.Dec.{leb, ltb, eqb}
 use lib.ListN.{length}
-use Rattle.refusal.specs.Small.{pick}
+use Rattle.small.specs.Small.{pick}
 use Rattle.refusal.specs.Numbers.{idOfFiller, idThere, delayTooLong, noRoom, noSuchEvent, eventDue, nothingDue, atLongest, unsound}
 use Rattle.refusal.specs.Refusal.{none, refused, Check, check, firstOf}
 use Rattle.queue.specs.Limits.{cellCount, filler}

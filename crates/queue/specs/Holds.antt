@@ -5,7 +5,7 @@ use mathlib.Core.List.{List, [], _∷_}
 use Prim.Native.Nat.{ℕ, suc}
 use lib.Dec.{leb, ltb}
 use lib.ListN.{getD}
-use Rattle.refusal.specs.Small.{pick, both}
+use Rattle.small.specs.Small.{pick, both}
 use Rattle.queue.specs.Row.{Event, eventsOf}
 use Rattle.queue.specs.Sound.{soundb, hasb}
 use Rattle.queue.specs.declared.Distance.{Distance}

@@ -6,7 +6,7 @@ use Prim.Native.Nat.{ℕ, zero, suc, _+_, _-_, _*_, _≤_, _<_}
 use lib.Dec.{leb, ltb, eqb}
 use lib.ListN.{take, drop, getD}
 use lib.Seq.{sets}
-use Rattle.refusal.specs.Small.{pick, both}
+use Rattle.small.specs.Small.{pick, both}
 use Rattle.queue.specs.Limits.{maxGap, filler}
 use Rattle.queue.specs.Row.{cell, cellsOf, eventsOf, eventsFrom, fillersFor, cellsFor}
 use Rattle.queue.specs.Sound.{hasb, distinctb}

@@ -3,7 +3,7 @@ use mathlib.Core.List.{List, [], _∷_, _++_}
 use Prim.Native.Nat.{ℕ, zero, suc, _+_, _-_, _*_, _/_}
 use lib.Dec.{eqb}
 use lib.ListN.{length, take}
-use Rattle.refusal.specs.Small.{pick, padded}
+use Rattle.small.specs.Small.{pick, padded}
 use Rattle.queue.specs.Limits.{cellCount, filler}
 use Rattle.queue.specs.declared.Cell.{Cell}
 use Rattle.queue.specs.declared.Queue.{Queue}

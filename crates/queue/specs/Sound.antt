@@ -4,7 +4,7 @@ use mathlib.Core.Bool.{Bool, true, false, not}
 use mathlib.Core.List.{List, [], _∷_}
 use Prim.Native.Nat.{ℕ}
 use lib.Dec.{leb, eqb}
-use Rattle.refusal.specs.Small.{pick, both}
+use Rattle.small.specs.Small.{pick, both}
 use Rattle.queue.specs.Limits.{cellCount}
 use Rattle.queue.specs.Row.{Event, queueOf, eventsOf, normal}
 use Rattle.queue.specs.declared.Cell.{Cell}

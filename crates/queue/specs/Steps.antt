@@ -5,7 +5,7 @@ use mathlib.Core.List.{List, [], _∷_, _++_}
 use Prim.Native.Nat.{ℕ, _+_, _-_}
 use lib.Dec.{leb, ltb, eqb}
 use lib.ListN.{length, drop, getD}
-use Rattle.refusal.specs.Small.{pick, both}
+use Rattle.small.specs.Small.{pick, both}
 use Rattle.refusal.specs.Numbers.{noRoom, unsound}
 use Rattle.refusal.specs.Refusal.{check, firstOf}
 use Rattle.queue.specs.Limits.{cellCount, filler}

@@ -10,7 +10,7 @@ ghost use Prim.Native.Nat.{_+_, _-_, _*_, _≤_, _<_};
 ghost use lib.Dec.{leb, ltb, eqb};
 ghost use lib.ListN.{drop, getD, replicate};
 ghost use lib.Seq.{sets};
-ghost use Rattle.refusal.specs.Small.{pick, both};
+ghost use Rattle.small.specs.Small.{pick, both};
 ghost use Rattle.queue.specs.Limits.{maxGap, cellCount, longest, filler};
 ghost use Rattle.queue.specs.Row.{cell, cellsOf, queueOf, fillersFor};
 ghost use Rattle.queue.specs.Sound.{soundb};

@@ -18,7 +18,7 @@ ghost use mathlib.Core.Bool.{false};
 ghost use Prim.Native.Nat.{_≤_};
 ghost use lib.Dec.{leb};
 ghost use lib.ListN.{drop};
-ghost use Rattle.refusal.specs.Small.{pick};
+ghost use Rattle.small.specs.Small.{pick};
 ghost use Rattle.queue.specs.Limits.{maxGap, cellCount};
 ghost use Rattle.queue.specs.Row.{cellsOf};
 ghost use Rattle.queue.specs.Steps.{firstCell, dueStep, emptyStep, fallsStep, nearerStep, restStep, tickStep, placeStep, againStep};

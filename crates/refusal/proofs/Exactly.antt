@@ -7,10 +7,10 @@ use Prim.Native.Nat.{ℕ, zero, suc}
 use lib.Dec.{eqb}
 use lib.ListN.{getD, take, drop}
 use borrow.Author.Tests.{eqb-true, eqb-false, ne-eqb, not-true}
-use Rattle.refusal.specs.Small.{pick, both}
+use Rattle.small.specs.Small.{pick, both}
+use Rattle.small.proofs.Tests.{both-left, both-right, contrary}
 use Rattle.refusal.specs.Refusal.{Check, check, firstOf}
 use Rattle.refusal.specs.declared.Refusal.{Refusal}
-use Rattle.refusal.proofs.Small.{both-left, both-right, contrary}
 
 -- none of the tests holds
 abbrev pub Passed : List Check → Type 0

@@ -6,10 +6,10 @@ use mathlib.Core.Logic.{_↔_, _⊎_, inl, inr, ⊎-elim}
 use Prim.Native.Nat.{ℕ, suc, _≤_, _<_}
 use native.Mathlib.Omega.{arith}
 use lib.ListN.{take, drop}
-use Rattle.refusal.specs.Small.{pick}
+use Rattle.small.specs.Small.{pick}
+use Rattle.small.proofs.Tests.{contrary}
 use Rattle.refusal.specs.Refusal.{refused, none, Check, firstOf}
 use Rattle.refusal.specs.declared.Refusal.{Refusal}
-use Rattle.refusal.proofs.Small.{contrary}
 use Rattle.refusal.proofs.Exactly.{Passed, Numbered, Other, exactly, given-by, theCheck, otherb, other, at-place}
 
 pub passed-join : (xs ys : List Check) → Passed xs → Passed ys → Passed (xs ++ ys)

@@ -9,7 +9,8 @@ use native.Mathlib.Omega.{arith}
 use lib.Dec.{leb}
 use lib.ListN.{length}
 use borrow.Author.Tests.{leb-true, le-leb}
-use Rattle.refusal.proofs.Small.{both-left, both-right}
+use Rattle.small.proofs.Tests.{both-left, both-right}
+use Rattle.small.proofs.Altered.{length-alter}
 use Rattle.queue.specs.Limits.{longest}
 use Rattle.queue.specs.Row.{eventsOf}
 use Rattle.queue.specs.Steps.{firstCell, dueStep, tickStep}
@@ -22,7 +23,6 @@ use Rattle.scheduler.specs.Tick.{dueIds, taskDelay, arrivedLoads, served
 use Rattle.scheduler.specs.Moves.{pendingBelow, tabledb, Clocked, Arriving, oneArrival, dueTurn, withQueue, servedTurn}
 use Rattle.scheduler.specs.declared.Load.{Load}
 use Rattle.scheduler.specs.declared.Entry.{Entry}
-use Rattle.scheduler.proofs.Lists.{length-alter}
 use Rattle.scheduler.proofs.Stated.{EntryStated, entry-stated, ServerStated, loads-below, work-below}
 use Rattle.scheduler.proofs.Turns.{Turned, turned, came-more, none-due, due-few, due-in, turn-is, ticked-turning}
 use Rattle.scheduler.proofs.TickSound.{task-delayed}

@@ -8,14 +8,14 @@ use native.Mathlib.Omega.{arith}
 use lib.Dec.{leb, ltb}
 use lib.ListN.{length, getD, drop, drop-of-length-le}
 use borrow.Author.Tests.{lt-ltb, ltb-true, ltb-false, le-leb, lt-leb}
-use Rattle.refusal.specs.Small.{pick}
-use Rattle.refusal.proofs.Small.{neither-left, neither-right}
+use Rattle.small.specs.Small.{pick}
+use Rattle.small.proofs.Tests.{neither-left, neither-right}
+use Rattle.small.proofs.Lists.{drop-step}
 use Rattle.table.specs.declared.Server.{Server}
 use Rattle.scheduler.specs.State.{zeroLoad}
 use Rattle.scheduler.specs.Choice.{pendingb, firstPending, somePending, readyb, chosenFrom}
 use Rattle.scheduler.specs.declared.Load.{Load}
 use Rattle.scheduler.specs.declared.Entry.{Entry}
-use Rattle.scheduler.proofs.Lists.{drop-step}
 
 -- a search among n places: `left i` is how far on from i the first place is that `hit` holds of; past the last it is 0
 pub record Search (n : ℕ) (hit : ℕ → Bool) (left : ℕ → ℕ) : Type 0 where

@@ -8,8 +8,9 @@ use native.Mathlib.Omega.{arith}
 use lib.Dec.{ltb, eqb}
 use lib.ListN.{length, getD}
 use borrow.Author.Tests.{le-ltb, ltb-true, ltb-false, eqb-true, ne-eqb}
-use Rattle.refusal.specs.Small.{pick, both}
-use Rattle.refusal.proofs.Small.{both-left, both-false, contrary}
+use Rattle.small.specs.Small.{pick, both}
+use Rattle.small.proofs.Tests.{both-left, both-false, contrary}
+use Rattle.small.proofs.Used.{in-use}
 use Rattle.queue.specs.Limits.{longest}
 use Rattle.table.specs.Limits.{entries, mostWork}
 use Rattle.table.specs.Table.{zeroServer}
@@ -25,7 +26,6 @@ use Rattle.scheduler.specs.declared.State.{State}
 use Rattle.scheduler.specs.declared.Choice.the-variants.{Idle, Burning, Running}
 use Rattle.scheduler.proofs.Stated.{Stated, stated, entry-stated}
 use Rattle.scheduler.proofs.Choosing.{FirstOf, first-pending, some-first, some-none, first-ready}
-use Rattle.scheduler.proofs.Turns.{in-use}
 use Rattle.scheduler.proofs.TickSound.{table-used, tick-accepts}
 
 -- a server that wants the tick with no work pending is idling

@@ -8,9 +8,9 @@ use native.Mathlib.Omega.{arith}
 use lib.Dec.{leb, ltb, eqb}
 use lib.ListN.{length, getD, List·getD-eq-default}
 use borrow.Author.Tests.{ltb-true, ltb-false, leb-true, leb-false, le-leb, eqb-true, eqb-false}
-use Rattle.refusal.specs.Small.{pick}
+use Rattle.small.specs.Small.{pick, usedb}
+use Rattle.small.proofs.Tests.{both-left, both-right, neither-left, neither-right, contrary}
 use Rattle.refusal.specs.Refusal.{none}
-use Rattle.refusal.proofs.Small.{both-left, both-right, neither-left, neither-right, contrary}
 use Rattle.queue.specs.Limits.{maxGap, longest, cellCount}
 use Rattle.queue.specs.Row.{Event, event, cellsOf, queueOf, eventsOf, normal}
 use Rattle.queue.specs.Sound.{hasb, soundb}
@@ -25,7 +25,7 @@ use Rattle.queue.proofs.DueTimes.{there, away, insert-others, insert-new}
 use Rattle.queue.proofs.Room.{room}
 use Rattle.table.specs.Limits.{mostWork, entries}
 use Rattle.table.specs.Table.{periodOf, zeroTask, zeroServer}
-use Rattle.table.specs.Sound.{usedb, taskb, zeroTaskb, tableb}
+use Rattle.table.specs.Sound.{taskb, zeroTaskb, tableb}
 use Rattle.table.specs.declared.Release.{Release}
 use Rattle.table.specs.declared.Release.the-variants.{OnArrival, Periodic}
 use Rattle.table.specs.declared.Task.{Task}

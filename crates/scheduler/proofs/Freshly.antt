@@ -6,7 +6,7 @@ use native.Mathlib.Numerals.{add-one}
 use lib.Dec.{eqb}
 use lib.ListN.{length, getD, take, drop, set, drop-of-length-le}
 use lib.Seq.{take-all, drop-cons, take-suc-set, append-snoc}
-use Rattle.refusal.specs.Small.{pick}
+use Rattle.small.specs.Small.{pick}
 use Rattle.queue.specs.Limits.{maxGap, longest}
 use Rattle.queue.specs.Calls.{insertOf}
 use Rattle.queue.specs.declared.Queue.{Queue}

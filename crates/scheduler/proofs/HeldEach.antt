@@ -8,8 +8,8 @@ use native.Mathlib.Omega.{arith}
 use lib.Dec.{leb, ltb, eqb}
 use lib.ListN.{length, getD}
 use borrow.Author.Tests.{ltb-true, leb-true, lt-ltb, le-leb, eq-eqb, eqb-true, eqb-false, not-true}
-use Rattle.refusal.specs.Small.{pick, both}
-use Rattle.refusal.proofs.Small.{both-left, both-right, contrary}
+use Rattle.small.specs.Small.{pick, both}
+use Rattle.small.proofs.Tests.{both-left, both-right, contrary}
 use Rattle.queue.specs.Limits.{maxGap, longest}
 use Rattle.queue.specs.Row.{Event, event, cellsOf, eventsOf}
 use Rattle.queue.specs.Sound.{hasb, distinctb, soundb}

@@ -3,7 +3,8 @@ use mathlib.Core.Path.{_≡_, refl, ap, _∙_}
 use mathlib.Core.List.{List, [], _∷_}
 use Prim.Native.Nat.{ℕ, zero, suc}
 use lib.ListN.{length, getD}
-use Rattle.refusal.specs.Small.{alter}
+use Rattle.small.specs.Small.{alter}
+use Rattle.small.proofs.Altered.{alter-keeps, length-alter}
 use Rattle.table.specs.Table.{zeroServer}
 use Rattle.table.specs.Meaning.{Sized}
 use Rattle.table.specs.declared.Task.{Task}
@@ -18,8 +19,6 @@ use Rattle.scheduler.specs.Meaning.{SizedState}
 use Rattle.scheduler.specs.declared.Load.{Load}
 use Rattle.scheduler.specs.declared.Entry.{Entry}
 use Rattle.scheduler.specs.declared.State.{State}
-use Rattle.scheduler.proofs.Altered.{alter-keeps}
-use Rattle.scheduler.proofs.Lists.{length-alter}
 use Rattle.scheduler.proofs.Lapsing.{lapsed-keeps, lapsed-at, lapsed-length}
 use Rattle.scheduler.proofs.Unchanged.{arrive-either}
 

@@ -8,8 +8,8 @@ use native.Mathlib.Omega.{arith}
 use lib.Dec.{ltb, eqb}
 use lib.ListN.{length, getD, List·getD-eq-default}
 use borrow.Author.Tests.{eqb-true, eq-eqb, ne-eqb, ltb-true, ltb-false, lt-ltb}
-use Rattle.refusal.specs.Small.{pick, both}
-use Rattle.refusal.proofs.Small.{both-left, both-right, either-true, contrary}
+use Rattle.small.specs.Small.{pick, both}
+use Rattle.small.proofs.Tests.{both-left, both-right, either-true, contrary}
 use Rattle.queue.specs.Limits.{longest}
 use Rattle.table.specs.Limits.{mostWork, entries}
 use Rattle.table.specs.Table.{zeroServer}

@@ -8,8 +8,9 @@ use native.Mathlib.Omega.{arith}
 use lib.Dec.{eqb}
 use lib.ListN.{length, getD}
 use borrow.Author.Tests.{eq-eqb, ne-eqb, eqb-true, not-true}
-use Rattle.refusal.specs.Small.{pick, alter}
-use Rattle.refusal.proofs.Small.{both-left, both-right, both-false}
+use Rattle.small.specs.Small.{pick, alter}
+use Rattle.small.proofs.Tests.{both-left, both-right, both-false}
+use Rattle.small.proofs.Altered.{length-alter, read-altered, alter-keeps}
 use Rattle.queue.proofs.DueTimes.{there}
 use Rattle.table.specs.Limits.{entries}
 use Rattle.table.specs.declared.Server.{Server}
@@ -22,8 +23,6 @@ use Rattle.scheduler.specs.Meaning.{SizedState, pendingAt, budgetAt, lap
 use Rattle.scheduler.specs.declared.Entry.{Entry}
 use Rattle.scheduler.specs.declared.State.{State}
 use Rattle.scheduler.proofs.Words.{state-sound}
-use Rattle.scheduler.proofs.Lists.{length-alter}
-use Rattle.scheduler.proofs.Altered.{read-altered, alter-keeps}
 use Rattle.scheduler.proofs.Lapsing.{lapsed-budget, lapsed-at, pending-kept}
 use Rattle.scheduler.proofs.Choosing.{some-none}
 use Rattle.scheduler.proofs.Unchanged.{arrive-either}

@@ -1,5 +1,3 @@
-pub mod Lists
-pub mod Altered
 pub mod Stated
 pub mod Lapsing
 pub mod Sizes

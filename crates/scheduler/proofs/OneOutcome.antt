@@ -1,6 +1,6 @@
 -- ONE OUTCOME: any two outcomes that a public call's contract allows are equal. Stated over the contracts themselves: `f.Post κs a r e` is what the
 -- contract of `f` says of the arguments a, the result r and the parameters e as they are at exit. Assumes nothing.
-use Rattle.refusal.proofs.Outcome.{One, same}
+use Rattle.small.proofs.Outcome.{One, same}
 use Rattle.scheduler.proofs.fresh.Reads as fresh
 use Rattle.scheduler.proofs.tick.Reads as tick
 use Rattle.scheduler.proofs.run.Reads as run

@@ -5,14 +5,14 @@ use mathlib.Core.List.{List}
 use Prim.Native.Nat.{ℕ, _≤_, _<_}
 use native.Mathlib.Omega.{arith}
 use lib.ListN.{length, getD, set}
-use Rattle.refusal.specs.Small.{alter}
+use Rattle.small.specs.Small.{alter}
+use Rattle.small.proofs.Altered.{set-alter}
 use Rattle.table.specs.Limits.{mostWork, entries}
 use Rattle.scheduler.specs.State.{mostPending, zeroLoad, serverAt, entryAt, taskAt}
 use Rattle.scheduler.specs.Sound.{stateb}
 use Rattle.scheduler.specs.Arrive.{loadAfter, withArrival, withLoads}
 use Rattle.scheduler.specs.declared.Entry.{Entry}
 use Rattle.scheduler.specs.declared.State.{State}
-use Rattle.scheduler.proofs.Lists.{set-alter}
 use Rattle.scheduler.proofs.Stated.{Eight, stated, entry-stated, server-stated, loads-below, below-at, work-below}
 
 -- its places are entries, and its work and what is pending are in range

@@ -5,7 +5,9 @@ use mathlib.Core.List.{List, []}
 use Prim.Native.Nat.{ℕ, suc, _+_, _≤_, _<_}
 use native.Mathlib.Omega.{arith}
 use lib.ListN.{length, getD, set}
-use Rattle.refusal.specs.Small.{alter}
+use Rattle.small.specs.Small.{alter}
+use Rattle.small.proofs.Altered.{set-alter, length-alter}
+use Rattle.small.proofs.Lists.{getD-inside}
 use Rattle.queue.specs.Limits.{maxGap}
 use Rattle.queue.specs.Row.{eventsOf}
 use Rattle.queue.specs.Steps.{firstCell, dueStep, tickStep, againStep}
@@ -20,7 +22,8 @@ use Rattle.scheduler.specs.Tick.{dueIds, dueIn, refilled, periodAt, full
 use Rattle.scheduler.specs.Moves.{requeued, Turning, periodIn}
 use Rattle.scheduler.specs.declared.Entry.{Entry}
 use Rattle.scheduler.specs.declared.State.{State}
-use Rattle.scheduler.proofs.Lists.{pastServer, pastEntry, getD-inside, set-alter, length-alter}
+use Rattle.scheduler.proofs.Sizes.{pastEntry}
+use Rattle.table.proofs.Sizes.{pastServer}
 use Rattle.scheduler.proofs.Turns.{Turned, turned, cameTo, came-more, none-due, due-few, due-in, turn-is, ticked-turning}
 use Rattle.scheduler.proofs.TickSound.{state-parts, server-delayed}
 

@@ -5,11 +5,11 @@ use mathlib.Core.Logic.{_↔_}
 use Prim.Native.Nat.{ℕ, _≤_, _<_}
 use lib.Dec.{eqb}
 use borrow.Author.Tests.{eq-eqb, eqb-true, lt-ltb, le-ltb, ltb-true, ltb-false, not-true, not-false}
-use Rattle.refusal.specs.Small.{pick}
+use Rattle.small.specs.Small.{pick}
+use Rattle.small.proofs.Tests.{contrary}
 use Rattle.refusal.specs.Numbers.{noServer, noTask, taskPeriodic, noRoomAgain, unsound}
 use Rattle.refusal.specs.Refusal.{none, firstOf}
 use Rattle.refusal.specs.declared.Refusal.{Refusal}
-use Rattle.refusal.proofs.Small.{contrary}
 use Rattle.refusal.proofs.Exactly.{number-when, none-when, no-place}
 use Rattle.queue.specs.Limits.{longest}
 use Rattle.table.specs.Limits.{mostWork}

@@ -1,21 +1,18 @@
 -- Ticks in a row: the state and the answers behind k of them, and what one more gives. Assumes nothing.
 use mathlib.Core.Path.{_≡_, refl, sym, ap, _∙_}
-use mathlib.Core.Bool.{Bool, true, false}
 use mathlib.Core.List.{List, [], _∷_, _++_}
-use Prim.Native.Nat.{ℕ, zero, suc, _+_, _≤_, _<_}
+use Prim.Native.Nat.{ℕ, zero, suc, _+_, _<_}
 use native.Mathlib.Numerals.{add-one}
 use native.Mathlib.Omega.{arith}
-use lib.Dec.{leb}
 use lib.ListN.{length, set}
-use borrow.Author.Tests.{leb-true}
-use Rattle.refusal.specs.Small.{pick, padded}
+use Rattle.small.specs.Small.{padded}
+use Rattle.small.proofs.Padded.{padded-push}
 use Rattle.refusal.specs.Refusal.{none}
-use Rattle.refusal.proofs.Small.{padded-push}
 use Rattle.queue.specs.declared.Queue.{Queue}
 use Rattle.table.specs.declared.Table.{Table}
 use Rattle.scheduler.specs.Choice.{choiceOf}
 use Rattle.scheduler.specs.Tick.{stateAfter, handledOf, tickedWith, tickOf}
-use Rattle.scheduler.specs.Run.{batchSize, answer, answersOf, stateAfterTicks, ticksIn}
+use Rattle.scheduler.specs.Run.{batchSize, answer, answersOf, stateAfterTicks}
 use Rattle.scheduler.specs.declared.Entry.{Entry}
 use Rattle.scheduler.specs.declared.State.{State}
 use Rattle.scheduler.specs.declared.Choice.the-variants.{Idle}
@@ -70,11 +67,3 @@ module _ (k : ℕ) (s now : State) (t : Ticking now) (e : now ≡ stateAfterTick
 
   pub answer-next : k < batchSize → set (answersIn k s) k (answer (choiceOf now) (handledOf now)) ≡ answersIn (k + 1) s
   answer-next h = ap (λ (x : Ticked). set (answersIn k s) k (answer (x .choice) (x .handled))) (sym ticked) ∙ answers-stored k s h
-
--- a run has at most 64 ticks
-pub ticks-few : (k : ℕ) → ticksIn k ≤ batchSize
-ticks-few k = go (leb k batchSize) refl
-  where
-    go : (b : Bool) → leb k batchSize ≡ b → pick b k batchSize ≤ batchSize
-    go true e = leb-true k batchSize e
-    go false e = omega arith

@@ -9,11 +9,16 @@ use denote.Array.{each}
 use denote.Shadow.{shadow}
 use denote.Struct.Declared.{row}
 use Rattle.table.specs.Limits.{entries}
+use Rattle.table.specs.Table.{served}
 use Rattle.scheduler.specs.declared.Entry.{Entry}
 use Rattle.scheduler.specs.declared.State.{State}
 use Rattle.scheduler.proofs.Entry as entry
 use Rattle.scheduler.proofs.State as state
 use Rattle.scheduler.proofs.Stated.{Eight}
+
+-- what the code's read of an entry would give past the end of the array
+abbrev pub pastEntry : Entry
+pastEntry = record { loads = []; arrivals = record { cells = []; len = 0 }; budget = served 0 }
 
 pub state-eight : (s : State) (vs : List Val) → shadow (row state.the-type .own s vs) → Eight s
 state-eight s vs k = record {

@@ -8,8 +8,10 @@ use native.Mathlib.Omega.{arith}
 use lib.Dec.{leb, ltb, eqb}
 use lib.ListN.{length, getD, drop, drop-of-length-le}
 use borrow.Author.Tests.{leb-true, ltb-true, ltb-false, eqb-true, le-leb}
-use Rattle.refusal.specs.Small.{pick, both, alter}
-use Rattle.refusal.proofs.Small.{both-left, both-right}
+use Rattle.small.specs.Small.{pick, both, alter, usedb}
+use Rattle.small.proofs.Tests.{both-left, both-right}
+use Rattle.small.proofs.Used.{used-none, each-from}
+use Rattle.small.proofs.Lists.{drop-step}
 use Rattle.queue.specs.Limits.{maxGap, longest}
 use Rattle.queue.specs.Row.{Event, eventsOf}
 use Rattle.queue.specs.Sound.{soundb}
@@ -17,18 +19,16 @@ use Rattle.queue.specs.Holds.{withinb, presentb, holdsb}
 use Rattle.queue.specs.declared.Queue.{Queue}
 use Rattle.table.specs.Limits.{mostWork, entries}
 use Rattle.table.specs.Table.{zeroTask, zeroServer}
-use Rattle.table.specs.Sound.{rangeb, usedb, kindb, taskb, zeroTaskb, tasksb, serverb, zeroServerb, tableb}
+use Rattle.table.specs.Sound.{rangeb, kindb, taskb, zeroTaskb, tasksb, serverb, zeroServerb, tableb}
 use Rattle.table.specs.declared.Task.{Task}
 use Rattle.table.specs.declared.Server.{Server}
 use Rattle.table.specs.declared.Table.{Table}
-use Rattle.table.proofs.Used.{used-none, each-from}
 use Rattle.scheduler.specs.State.{mostPending, serverAt, entryAt, zeroLoad, zeroEntry}
 use Rattle.scheduler.specs.Sound.{releaseReach, taskReaches, serverReaches, loadb, zeroLoadb, entryb, eachb, entriesb, allSpentb, stateb}
 use Rattle.scheduler.specs.Moves.{allOf, pendingBelow}
 use Rattle.scheduler.specs.declared.Load.{Load}
 use Rattle.scheduler.specs.declared.Entry.{Entry}
 use Rattle.scheduler.specs.declared.State.{State}
-use Rattle.scheduler.proofs.Lists.{drop-step}
 
 -- A QUEUE THAT HOLDS WHAT IT IS TO HOLD
 

@@ -8,8 +8,9 @@ use native.Mathlib.Omega.{arith}
 use lib.Dec.{leb, ltb, eqb}
 use lib.ListN.{length, getD}
 use borrow.Author.Tests.{leb-true, leb-false, ltb-false, ne-eqb, eqb-true, not-true, le-leb, lt-leb}
-use Rattle.refusal.specs.Small.{pick, both, alter}
-use Rattle.refusal.proofs.Small.{both-left, both-right, both-false, neither-right, contrary}
+use Rattle.small.specs.Small.{pick, both, alter}
+use Rattle.small.proofs.Tests.{both-left, both-right, both-false, neither-right, contrary}
+use Rattle.small.proofs.Altered.{length-alter, read-altered, alter-keeps}
 use Rattle.queue.specs.Limits.{maxGap, longest}
 use Rattle.queue.specs.Row.{Event, eventsOf}
 use Rattle.queue.specs.Sound.{hasb, distinctb, soundb}
@@ -33,8 +34,6 @@ use Rattle.scheduler.specs.declared.Load.{Load}
 use Rattle.scheduler.specs.declared.Entry.{Entry}
 use Rattle.scheduler.specs.declared.State.{State}
 use Rattle.scheduler.specs.declared.Choice.the-variants.{Idle, Burning, Running}
-use Rattle.scheduler.proofs.Lists.{length-alter}
-use Rattle.scheduler.proofs.Altered.{read-altered, alter-keeps}
 use Rattle.scheduler.proofs.Unchanged.{arrive-done}
 use Rattle.scheduler.proofs.Stated.{Stated, stated, entry-stated, every-server}
 use Rattle.scheduler.proofs.Lapsing.{lapsed-keeps, lapsed-at}

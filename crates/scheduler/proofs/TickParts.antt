@@ -2,16 +2,18 @@
 -- entry. Each law takes what the code reads and stores. Assumes nothing.
 use mathlib.Core.Path.{_≡_, refl, sym, ap, _∙_}
 use mathlib.Core.Bool.{true, false}
-use mathlib.Core.List.{List, [], _∷_, _++_, append-nil, append-assoc}
+use mathlib.Core.List.{List, [], _∷_, _++_}
 use Prim.Native.Nat.{ℕ, zero, suc, _+_, _-_, _*_, _≤_, _<_}
 use native.Mathlib.Numerals.{add-one}
 use native.Mathlib.Omega.{arith}
 use lib.Dec.{ltb, eqb}
-use lib.ListN.{length, getD, set, take, drop, length-append, drop-of-length-le}
-use lib.Seq.{take-suc, take-all, drop-cons, getD-at, set-at, set-getD}
+use lib.ListN.{length, getD, set, take, drop}
+use lib.Seq.{take-suc, take-all, set-getD}
 use borrow.Author.Tests.{le-ltb}
-use Rattle.refusal.specs.Small.{alter}
-use Rattle.refusal.proofs.Small.{both-right}
+use Rattle.small.specs.Small.{alter, sumBelow}
+use Rattle.small.proofs.Tests.{both-right}
+use Rattle.small.proofs.Altered.{set-alter, length-alter, alter-past}
+use Rattle.small.proofs.Lists.{getD-inside, firsts, firsts-at, firsts-more, firsts-all}
 use Rattle.queue.specs.Limits.{maxGap, longest}
 use Rattle.queue.specs.Sound.{soundb}
 use Rattle.queue.specs.Steps.{emptyStep, dueStep, fallsStep, nearerStep, tickStep}
@@ -30,7 +32,8 @@ use Rattle.scheduler.specs.Moves.{tabledb, withQueue, servedTurn, givesU
 use Rattle.scheduler.specs.declared.Entry.{Entry}
 use Rattle.scheduler.specs.declared.EntryTurn.{EntryTurn}
 use Rattle.scheduler.specs.declared.State.{State}
-use Rattle.scheduler.proofs.Lists.{pastServer, pastEntry, getD-inside, set-alter, length-alter, alter-past}
+use Rattle.scheduler.proofs.Sizes.{pastEntry}
+use Rattle.table.proofs.Sizes.{pastServer}
 use Rattle.scheduler.proofs.Stated.{every-server, entry-stated, held, Eight, paired-from, stated}
 use Rattle.scheduler.proofs.Lapsing.{lapsed-same, lapsed-given, lapsed-at, lapsed-length}
 use Rattle.scheduler.proofs.Choosing.{FirstOf, first-ready, first-pending}
@@ -39,41 +42,6 @@ use Rattle.scheduler.proofs.KeptSizes.{served-length, before-length, ti
 use Rattle.scheduler.proofs.TaskLaws.{each-at}
 use Rattle.scheduler.proofs.Arrivals.{tabled, served-few, served-none}
 use Rattle.scheduler.proofs.Refilling.{Refilled}
-
--- A LIST REPLACED PLACE BY PLACE: the first i are the new ones, the others as they were
-
--- the first i values of a function, and their sum
-abbrev pub firsts : {A : Type 0} → (ℕ → A) → ℕ → List A
-firsts f zero = []
-firsts f (suc i) = firsts f i ++ (f i ∷ [])
-
-abbrev pub sumTo : (ℕ → ℕ) → ℕ → ℕ
-sumTo f zero = 0
-sumTo f (suc i) = sumTo f i + f i
-
-module _ {A : Type 0} (f : ℕ → A) where
-  firsts-length : (i : ℕ) → length (firsts f i) ≡ i
-  firsts-length zero = refl
-  firsts-length (suc i) = rw length-append (omega (arith, firsts-length i))
-
-  module _ (xs : List A) (i : ℕ) (z : A) (h : i < length xs) where
-    firsts-at : getD (firsts f i ++ drop i xs) i z ≡ getD xs i z
-    firsts-at = rw (drop-cons xs i z) (getD-at (firsts f i) (getD xs i z) (drop (suc i) xs) z i (firsts-length i))
-
-    firsts-more : set (firsts f i ++ drop i xs) i (f i) ≡ firsts f (i + 1) ++ drop (i + 1) xs
-    firsts-more = rw (add-one, append-assoc, drop-cons xs i z h) (set-at (firsts f i) (getD xs i z) (drop (suc i) xs) (f i) i (firsts-length i))
-
-  firsts-take : (ys : List A) (z : A) (i : ℕ) → i ≤ length ys → ((j : ℕ) → j < length ys → getD ys j z ≡ f j) → firsts f i ≡ take i ys
-  firsts-take ys z zero h r = refl
-  firsts-take ys z (suc i) h r =
-      let k : i < length ys = omega arith in
-      rw (take-suc ys i z k, firsts-take ys z i (omega arith) r, r i k)
-
-  -- at the end they are the list whose elements they are
-  firsts-all : (xs ys : List A) (z : A) (n : ℕ) → length xs ≤ n → length ys ≡ n → ((j : ℕ) → j < n → getD ys j z ≡ f j) → firsts f n ++ drop n xs ≡ ys
-  firsts-all xs ys z n h l r =
-      rw (drop-of-length-le xs h, append-nil)
-      (firsts-take ys z n (omega arith) (λ j k. r j (omega arith)) ∙ take-all n ys (omega arith))
 
 -- STEP 4 OVER THE SERVERS' QUEUES
 
@@ -93,10 +61,11 @@ pub record Serving (t : Table) (es₀ : List Entry) (n₀ : ℕ) (es : List Entr
   pub fitting : Fitting t es₀
   pub place : i ≤ entries
   pub served : es ≡ firsts (λ j. turnAt t es₀ j .entry) i ++ drop i es₀
-  pub handled : n ≡ n₀ + sumTo (λ j. turnAt t es₀ j .handled) i
+  pub handled : n ≡ n₀ + sumBelow (λ j. turnAt t es₀ j .handled) i
   pub few : n ≤ entries + entries * i
 
 pub serve-start : {t : Table} {es : List Entry} {n : ℕ} → Fitting t es → n ≤ entries → Serving t es n es n 0
+unfolding sumBelow
 serve-start f h = record { fitting = f; place = omega arith; served = refl; handled = omega arith; few = omega arith }
 
 module _ {t : Table} {es₀ es : List Entry} {n₀ n i : ℕ} (v : Serving t es₀ n₀ es n i) (l : i < entries) where
@@ -130,9 +99,10 @@ module _ {t : Table} {es₀ es : List Entry} {n₀ n i : ℕ} (v : Serving t es�
 
   -- it is served
   pub serve-more : (r : EntryTurn) → r ≡ servedTurn server entry → Serving t es₀ n₀ (set es i (r .entry)) (n + r .handled) (i + 1)
+  unfolding sumBelow
   serve-more r d =
       let e : r ≡ turnAt t es₀ i = d ∙ (λ k. servedTurn (server-is k) (entry-is k)) in
-      let m : sumTo (λ j. turnAt t es₀ j .handled) (i + 1) ≡ sumTo (λ j. turnAt t es₀ j .handled) i + turnAt t es₀ i .handled = rw add-one in
+      let m : sumBelow (λ j. turnAt t es₀ j .handled) (i + 1) ≡ sumBelow (λ j. turnAt t es₀ j .handled) i + turnAt t es₀ i .handled = rw add-one in
       let g : r .handled ≡ turnAt t es₀ i .handled = ap (λ (x : EntryTurn). x .handled) e in
       let f : r .handled ≤ entries = rw d serve-few in
       record {
@@ -234,8 +204,8 @@ due-append : (es fs : List Entry) → dueEvents (es ++ fs) ≡ dueEvents es + du
 due-append [] fs = omega arith
 due-append (e ∷ es) fs = omega (arith, due-append es fs)
 
-due-sum : (t : Table) (es : List Entry) (i : ℕ) → i ≤ length es → dueEvents (take i es) ≡ sumTo (λ j. turnAt t es j .handled) i
-unfolding servedTurn
+due-sum : (t : Table) (es : List Entry) (i : ℕ) → i ≤ length es → dueEvents (take i es) ≡ sumBelow (λ j. turnAt t es j .handled) i
+unfolding sumBelow servedTurn
 due-sum t es zero h = refl
 due-sum t es (suc i) h =
     let l : i < length es = omega arith in
@@ -368,6 +338,6 @@ module _ (s : State) (k : Ticking s) where
       tick-count =
           let f = v .fitting in
           let t : take entries es₀ ≡ es₀ = take-all entries es₀ (omega (arith, f .full)) in
-          let a : sumTo (λ j. turnAt (s .table) es₀ j .handled) i ≡ dueEvents es₀ = rw (last, ← due-sum (s .table) es₀ entries (omega (arith, f .full)), t) in
+          let a : sumBelow (λ j. turnAt (s .table) es₀ j .handled) i ≡ dueEvents es₀ = rw (last, ← due-sum (s .table) es₀ entries (omega (arith, f .full)), t) in
           let b : dueEvents es₀ ≡ dueEvents (s .entries) = rw (r .budgets, due-refilled) (due-altered charge (λ x. refl) (s .entries) (chosenOf s)) in
           omega (arith, v .handled, r .handled)

@@ -9,16 +9,17 @@ use native.Mathlib.Omega.{arith}
 use lib.Dec.{leb, ltb, eqb}
 use lib.ListN.{getD}
 use borrow.Author.Tests.{ltb-true, leb-true, le-leb, eq-eqb, eqb-true}
-use Rattle.refusal.specs.Small.{pick}
+use Rattle.small.specs.Small.{pick, usedb}
+use Rattle.small.proofs.Tests.{both-left, both-right, contrary}
+use Rattle.small.proofs.Used.{used-any, used-one, in-use}
 use Rattle.refusal.specs.Numbers.{noRoomAgain}
 use Rattle.refusal.specs.Refusal.{none}
-use Rattle.refusal.proofs.Small.{both-left, both-right, contrary}
 use Rattle.queue.specs.Limits.{maxGap, longest}
 use Rattle.queue.specs.Holds.{holdsb}
 use Rattle.queue.proofs.DueTimes.{there}
 use Rattle.table.specs.Limits.{mostWork, entries}
 use Rattle.table.specs.Table.{periodOf, zeroTask, zeroServer}
-use Rattle.table.specs.Sound.{rangeb, usedb, releaseb, taskb, arrivalb, zeroTaskb, serverb, zeroServerb, tableb}
+use Rattle.table.specs.Sound.{rangeb, releaseb, taskb, arrivalb, zeroTaskb, serverb, zeroServerb, tableb}
 use Rattle.table.specs.declared.Release.{Release}
 use Rattle.table.specs.declared.Release.the-variants.{OnArrival, Periodic}
 use Rattle.table.specs.declared.Task.{Task}
@@ -34,10 +35,8 @@ use Rattle.scheduler.specs.Run.{stateAfterTicks, ticksIn, runOf}
 use Rattle.scheduler.specs.declared.Load.{Load}
 use Rattle.scheduler.specs.declared.Entry.{Entry}
 use Rattle.scheduler.specs.declared.State.{State}
-use Rattle.scheduler.proofs.Altered.{used-any, used-one}
 use Rattle.scheduler.proofs.Stated.{EntryStated, entry-stated, ServerStated, server-stated, zero-stated, server-reach, task-reach, paired-one}
 use Rattle.scheduler.proofs.Lapsing.{entries-lapsed, all-spent, arrived-spent}
-use Rattle.scheduler.proofs.Turns.{in-use}
 use Rattle.scheduler.proofs.Refusals.{tick-30, tick-accepted, arrive-accepted, run-accepted}
 use Rattle.scheduler.proofs.Unchanged.{tick-done, arrive-either, run-done}
 use Rattle.scheduler.proofs.HeldEach.{HeldEach, held-each, held-reached}

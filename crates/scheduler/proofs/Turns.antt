@@ -3,13 +3,13 @@
 use mathlib.Core.Path.{_≡_, refl, sym, ap, subst, _∙_}
 use mathlib.Core.Bool.{Bool, true, false}
 use mathlib.Core.List.{List, [], _∷_}
-use Prim.Native.Nat.{ℕ, zero, suc, _≤_, _<_}
+use Prim.Native.Nat.{ℕ, suc, _≤_, _<_}
 use native.Mathlib.Omega.{arith}
 use lib.Dec.{leb, eqb}
 use lib.ListN.{length, getD}
 use borrow.Author.Tests.{ne-eqb}
-use Rattle.refusal.specs.Small.{pick}
-use Rattle.refusal.proofs.Small.{both-left, both-right, neither-left, neither-right, contrary}
+use Rattle.small.specs.Small.{pick}
+use Rattle.small.proofs.Tests.{neither-left, neither-right, contrary}
 use Rattle.queue.specs.Limits.{maxGap, longest, filler}
 use Rattle.queue.specs.Row.{Event, event, eventsOf}
 use Rattle.queue.specs.Sound.{soundb}
@@ -25,25 +25,11 @@ use Rattle.queue.proofs.DueTimes.{take-first, take-gone}
 use Rattle.queue.proofs.Room.{room-for-eight}
 use Rattle.queue.proofs.Same.{clock-step, take-step, insert-step}
 use Rattle.table.specs.Limits.{entries}
-use Rattle.table.specs.Sound.{usedb}
 use Rattle.scheduler.specs.Tick.{clocked, dueIds, dueIn, putAgain, again, turnOf}
 use Rattle.scheduler.specs.Moves.{requeued, allOf, Turning}
 use Rattle.scheduler.proofs.Stated.{held, within-each}
 use Rattle.scheduler.proofs.HeldEach.{HeldEach, held-each, held-few, held-rests}
 use Rattle.scheduler.proofs.Again.{Delayed, ids-with, earlier-length}
-
--- A LIST WHOSE FIRST ENTRIES ARE IN USE
-
--- an entry of a list that is not of the others' kind is in use and good
-pub in-use : {A : Type 0} (good none : A → Bool) (d : A) → none d ≡ true → (xs : List A) (n id : ℕ) → usedb good none xs n ≡ true
-    → (none (getD xs id d) ≡ true → ⊥) → (id < n) × (good (getD xs id d) ≡ true)
-in-use good none d z [] n id u h = absurd (h z)
-in-use good none d z (x ∷ xs) zero zero u h = absurd (h (both-left _ _ u))
-in-use good none d z (x ∷ xs) zero (suc id) u h = absurd (omega (arith, in-use good none d z xs zero id (both-right (none x) _ u) h .0))
-in-use good none d z (x ∷ xs) (suc n) zero u h = (omega arith, both-left _ _ u)
-in-use good none d z (x ∷ xs) (suc n) (suc id) u h =
-    let r = in-use good none d z xs n id (both-right (good x) _ u) h in
-    (omega (arith, r .0), r .1)
 
 -- DUE EVENTS
 

@@ -4,14 +4,16 @@ use mathlib.Core.Path.{_≡_, refl, sym, ap, _∙_}
 use mathlib.Core.Bool.{Bool, true, false, not}
 use mathlib.Core.List.{List, [], _∷_}
 use mathlib.Core.Logic.{_↔_}
-use Prim.Native.Nat.{ℕ, zero, suc, _≤_, _<_, max}
+use Prim.Native.Nat.{ℕ, _≤_, _<_, max}
 use native.Mathlib.Omega.{arith}
 use lib.Dec.{leb, ltb, eqb}
 use lib.ListN.{length, getD, replicate, List·getD-eq-default}
 use lib.Seq.{ext-getD}
 use borrow.Author.Tests.{leb-true, leb-false, ltb-true, ltb-false, eqb-true, eq-eqb, le-leb}
-use Rattle.refusal.specs.Small.{pick, both}
-use Rattle.refusal.proofs.Small.{both-left, both-right}
+use Rattle.small.specs.Small.{pick, both}
+use Rattle.small.proofs.Tests.{both-left, both-right}
+use Rattle.small.proofs.Used.{Each, each-from, each-to}
+use Rattle.small.proofs.Lists.{past-default, replicate-default}
 use Rattle.queue.specs.Limits.{maxGap, longest}
 use Rattle.queue.specs.Row.{Event, cellsOf, queueOf, eventsOf, normal}
 use Rattle.queue.specs.Sound.{sameb, soundb, hasb}
@@ -29,7 +31,6 @@ use Rattle.table.specs.declared.Release.{Release}
 use Rattle.table.specs.declared.Release.the-variants.{OnArrival, Periodic}
 use Rattle.table.specs.declared.Task.{Task}
 use Rattle.table.specs.declared.Server.{Server}
-use Rattle.table.proofs.Used.{Each, each-from, each-to}
 use Rattle.table.proofs.Soundness.{table-sound}
 use Rattle.scheduler.specs.State.{mostPending, mostLost, zeroLoad, zeroEntry, serverAt, entryAt, taskAt}
 use Rattle.scheduler.specs.Choice.{pendingb, somePending}
@@ -44,19 +45,6 @@ use Rattle.scheduler.proofs.Choosing.{some-none}
 use Rattle.scheduler.proofs.HeldEach.{held-each, held-reached}
 
 -- WHAT IS NOT IN USE
-
--- an entry that is the default wherever there is one is the default past the end too
-past : {A : Type 0} (xs : List A) (d : A) (n : ℕ) → ((i : ℕ) → n ≤ i → i < length xs → getD xs i d ≡ d) → (i : ℕ) → n ≤ i → getD xs i d ≡ d
-past xs d n h i m = go (ltb i (length xs)) refl
-  where
-    go : (b : Bool) → ltb i (length xs) ≡ b → getD xs i d ≡ d
-    go true p = h i m (ltb-true i (length xs) p)
-    go false p = List·getD-eq-default xs d (ltb-false i (length xs) p)
-
-alike : {A : Type 0} (n i : ℕ) (d : A) → getD (replicate n d) i d ≡ d
-alike zero i d = refl
-alike (suc n) zero d = refl
-alike (suc n) (suc i) d = alike n i d
 
 -- a sound queue in which no id is there is the empty one
 no-events : (es : List Event) → ((j : ℕ) → hasb j es ≡ true → ⊥) → es ≡ []
@@ -86,7 +74,7 @@ zero-load l = (forth, λ e. ap zeroLoadb e)
 -- THE ENTRY OF A SERVER THAT IS NOT IN USE
 
 zero-reach : (j : ℕ) → getD (taskReaches (zeroServer .tasks)) j 0 ≡ 0
-zero-reach j = task-reach (zeroServer .tasks) j ∙ rw (alike entries j zeroTask)
+zero-reach j = task-reach (zeroServer .tasks) j ∙ rw (replicate-default entries j zeroTask)
 
 zero-entry : (e : Entry) → length (e .loads) ≡ entries → EntryStated zeroServer e → e ≡ zeroEntry
 zero-entry e full w =
@@ -94,7 +82,7 @@ zero-entry e full w =
     let each = each-from loadb zeroLoadb zeroLoad (e .loads) 0 (omega arith) (w .loads) in
     let b : e .budget .0 ≡ 0 = omega (arith, w .budget) in
     let ls : e .loads ≡ replicate entries zeroLoad =
-    ext-getD zeroLoad (e .loads) (replicate entries zeroLoad) full λ i h. zero-load (getD (e .loads) i zeroLoad) .0 (each .unused i (omega arith) h) ∙ sym (alike entries i zeroLoad) in
+    ext-getD zeroLoad (e .loads) (replicate entries zeroLoad) full λ i h. zero-load (getD (e .loads) i zeroLoad) .0 (each .unused i (omega arith) h) ∙ sym (replicate-default entries i zeroLoad) in
     let q : e .arrivals ≡ queueOf [] =
     no-queue (e .arrivals) (held .sound) λ j t. omega (arith, held-reached (taskReaches (zeroServer .tasks)) (e .arrivals) held j t, zero-reach j) in
     λ j. record { loads = ls j; arrivals = q j; budget = record { 0 = b j } }
@@ -150,7 +138,7 @@ release-reached D (Periodic T O) w = (λ h. refl, λ e. omega (arith, w .period 
 
 module _ (s : State) (t : SoundTable longest mostWork (s .table)) where
   unused-server : (i : ℕ) → s .table .count ≤ i → serverAt s i ≡ zeroServer
-  unused-server = past (s .table .servers) zeroServer (s .table .count) (t .unused)
+  unused-server = past-default (s .table .servers) zeroServer (s .table .count) (t .unused)
 
   refill-reached : (i : ℕ) → (1 ≤ periodAt s i) ↔ (i < s .table .count)
   refill-reached i = (go (ltb i (s .table .count)) refl, λ u. t .used i u .period .low)
@@ -179,10 +167,10 @@ module _ (s : State) (t : SoundTable longest mostWork (s .table)) where
       go true false p q h =
           let w = t .used i (ltb-true i (s .table .count) p) in
           let m : serverAt s i .count ≤ j = ltb-false j (serverAt s i .count) q in
-          absurd (omega (arith, unused-reach i j (past (serverAt s i .tasks) zeroTask (serverAt s i .count) (w .unused) j m)))
+          absurd (omega (arith, unused-reach i j (past-default (serverAt s i .tasks) zeroTask (serverAt s i .count) (w .unused) j m)))
       go false c p q h =
           let e : serverAt s i ≡ zeroServer = unused-server i (ltb-false i (s .table .count) p) in
-          absurd (omega (arith, unused-reach i j (ap (λ (v : Server). taskAt v j) e ∙ alike entries j zeroTask)))
+          absurd (omega (arith, unused-reach i j (ap (λ (v : Server). taskAt v j) e ∙ replicate-default entries j zeroTask)))
 
   refills-exactly : holdsb maxGap longest (serverReaches (s .table .servers)) (s .refills) ≡ true ↔ Exactly (λ (i : ℕ). i < s .table .count) (periodAt s) (s .refills)
   refills-exactly =
@@ -220,7 +208,7 @@ module _ (s : State) (z : SizedState s) where
     known : SoundTable longest mostWork (s .table)
     known = table-sound longest mostWork (s .table) (z .table) .0 (parts .table)
 
-    -- each entry with its server; past the end both are zero
+    -- each entry with its server; past-default the end both are zero
     entry-known : (i : ℕ) → EntryStated (serverAt s i) (entryAt s i)
     entry-known i = entry-stated (serverAt s i) (entryAt s i) .0 (go (ltb i entries) refl)
       where

@@ -4,7 +4,7 @@ use mathlib.Core.List.{List, [], _∷_}
 use Prim.Native.Nat.{ℕ, _+_}
 use lib.Dec.{leb, ltb, eqb}
 use lib.ListN.{getD}
-use Rattle.refusal.specs.Small.{pick, alter}
+use Rattle.small.specs.Small.{pick, alter}
 use Rattle.refusal.specs.Numbers.{unsound, noServer, noTask, taskPeriodic}
 use Rattle.refusal.specs.Refusal.{none, Check, check, firstOf}
 use Rattle.refusal.specs.declared.Refusal.{Refusal}

@@ -1,10 +1,9 @@
 -- Steps 1 and 2 of a tick: who wants it, who is chosen.
 use mathlib.Core.Bool.{Bool, true, false}
 use mathlib.Core.List.{List, [], _∷_}
-use Prim.Native.Nat.{ℕ, zero, suc}
+use Prim.Native.Nat.{ℕ, suc}
 use lib.Dec.{ltb, eqb}
-use lib.ListN.{length}
-use Rattle.refusal.specs.Small.{pick, both}
+use Rattle.small.specs.Small.{pick, both}
 use Rattle.table.specs.Limits.{entries}
 use Rattle.table.specs.declared.Server.{Server}
 use Rattle.scheduler.specs.State.{entryAt}

@@ -3,7 +3,7 @@ use mathlib.Core.Path.{_≡_}
 use mathlib.Core.List.{List, [], _∷_}
 use Prim.Native.Nat.{ℕ}
 use lib.ListN.{length, getD}
-use Rattle.refusal.specs.Small.{padded, alter}
+use Rattle.small.specs.Small.{padded, alter}
 use Rattle.queue.specs.Edge.{QueueEdge}
 use Rattle.table.specs.Limits.{entries}
 use Rattle.table.specs.Table.{ticks, served, zeroTask, zeroServer}

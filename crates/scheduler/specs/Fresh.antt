@@ -1,11 +1,11 @@
 -- "Fresh state: each budget is C; each replenishment is P away. A periodic task with O = 0 has work E and its next arrival T away; with O > 0, work 0 and
 -- its arrival O away. Server and task events go in by table order."
-use mathlib.Core.Bool.{Bool, true, false, not}
+use mathlib.Core.Bool.{not}
 use mathlib.Core.List.{List, [], _∷_}
-use Prim.Native.Nat.{ℕ, zero, suc}
+use Prim.Native.Nat.{ℕ, suc}
 use lib.Dec.{eqb}
 use lib.ListN.{replicate}
-use Rattle.refusal.specs.Small.{pick}
+use Rattle.small.specs.Small.{pick}
 use Rattle.refusal.specs.Numbers.{unsound}
 use Rattle.refusal.specs.Refusal.{none, Check, check, firstOf}
 use Rattle.refusal.specs.declared.Refusal.{Refusal}

@@ -2,7 +2,7 @@
 use mathlib.Core.Bool.{Bool, not}
 use Prim.Native.Nat.{ℕ}
 use lib.Dec.{eqb}
-use Rattle.refusal.specs.Small.{pick, both}
+use Rattle.small.specs.Small.{pick, both}
 use Rattle.table.specs.declared.Server.{Server}
 use Rattle.scheduler.specs.State.{withBudget}
 use Rattle.scheduler.specs.Choice.{somePending}

@@ -3,7 +3,7 @@ use mathlib.Core.Path.{_≡_}
 use mathlib.Core.Bool.{true, false}
 use mathlib.Core.List.{List, [], _∷_}
 use Prim.Native.Nat.{ℕ, zero, suc}
-use Rattle.refusal.specs.Small.{alter}
+use Rattle.small.specs.Small.{alter}
 use Rattle.refusal.specs.Numbers.{unsound}
 use Rattle.scheduler.specs.State.{withBudget}
 use Rattle.scheduler.specs.Sound.{stateb}

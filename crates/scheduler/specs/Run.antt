@@ -1,10 +1,10 @@
 -- A run of k ticks in one call, for the desk and for catching up: the answers of k single ticks in a row and the state after them. At most 64: a run of
 -- more is a run of 64, and the answer says how many there were.
-use mathlib.Core.Bool.{Bool, not}
+use mathlib.Core.Bool.{not}
 use mathlib.Core.List.{List, [], _∷_}
-use Prim.Native.Nat.{ℕ, zero, suc}
-use lib.Dec.{leb, eqb}
-use Rattle.refusal.specs.Small.{pick, padded}
+use Prim.Native.Nat.{ℕ, zero, suc, min}
+use lib.Dec.{eqb}
+use Rattle.small.specs.Small.{pick, padded}
 use Rattle.refusal.specs.Numbers.{unsound}
 use Rattle.refusal.specs.Refusal.{none, Check, check, firstOf}
 use Rattle.refusal.specs.declared.Refusal.{Refusal}
@@ -32,7 +32,7 @@ stateAfterTicks zero s = s
 stateAfterTicks (suc k) s = stateAfterTicks k (tickOf s .state)
 
 abbrev pub ticksIn : ℕ → ℕ
-ticksIn k = pick (leb k batchSize) k batchSize
+ticksIn k = min k batchSize
 
 abbrev pub runChecks : State → List Check
 runChecks s = check unsound (not (stateb s)) ∷ []

@@ -1,15 +1,15 @@
 -- "A state is sound if: table values are in range; unused entries are zero; budgets are at most C; pending work is at most 1,000,000, lost counts at most
 -- 65,535; queues are each sound alone and hold exactly the replenishments and the periodic tasks' arrivals, each once; a replenishment is 1 to P away, an
 -- arrival 1 to the larger of T and O." And: "In a sound state a polling server with no pending work has budget 0." (document 02, #101)
-use mathlib.Core.Bool.{Bool, true, false}
+use mathlib.Core.Bool.{Bool, true}
 use mathlib.Core.List.{List, [], _∷_}
 use Prim.Native.Nat.{ℕ}
 use lib.Dec.{leb, eqb}
-use Rattle.refusal.specs.Small.{pick, both}
+use Rattle.small.specs.Small.{pick, both, usedb}
 use Rattle.queue.specs.Limits.{maxGap, longest}
 use Rattle.queue.specs.Holds.{holdsb}
 use Rattle.table.specs.Limits.{mostWork}
-use Rattle.table.specs.Sound.{usedb, tableb}
+use Rattle.table.specs.Sound.{tableb}
 use Rattle.table.specs.declared.Release.{Release}
 use Rattle.table.specs.declared.Release.the-variants.{OnArrival, Periodic}
 use Rattle.table.specs.declared.Task.{Task}

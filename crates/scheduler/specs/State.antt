@@ -1,6 +1,6 @@
 -- The scheduler's state: for each server entry its tasks' loads, its arrival queue and its budget; and one replenishment queue for all servers.
 -- "Event ids are the places in the table."
-use mathlib.Core.List.{List, []}
+use mathlib.Core.List.{[]}
 use Prim.Native.Nat.{ℕ}
 use lib.ListN.{getD, replicate}
 use Rattle.queue.specs.Row.{queueOf}

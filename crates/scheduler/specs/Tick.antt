@@ -1,10 +1,10 @@
 -- One tick: document 01's four steps, in its order, over the queue's own definitions, and at the end what polling servers give up (document 02, #101).
-use mathlib.Core.Bool.{Bool, true, false, not}
+use mathlib.Core.Bool.{Bool, true, not}
 use mathlib.Core.List.{List, [], _∷_}
 use Prim.Native.Nat.{ℕ, _+_, _-_}
 use lib.Dec.{eqb}
 use lib.ListN.{length}
-use Rattle.refusal.specs.Small.{pick, both, alter}
+use Rattle.small.specs.Small.{pick, both, alter}
 use Rattle.refusal.specs.Numbers.{unsound, noRoomAgain}
 use Rattle.refusal.specs.Refusal.{none, Check, check, firstOf}
 use Rattle.refusal.specs.declared.Refusal.{Refusal}

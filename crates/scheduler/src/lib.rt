@@ -10,16 +10,16 @@ use table::Task;
 ghost use mathlib.Core.Path.{_≡_};
 ghost use mathlib.Core.Bool.{true};
 ghost use Prim.Native.Nat.{_≤_};
-ghost use lib.Dec.{leb, ltb, eqb};
-ghost use Rattle.refusal.specs.Small.{pick};
+ghost use lib.Dec.{ltb, eqb};
+ghost use Rattle.small.specs.Small.{pick, usedb};
 ghost use Rattle.refusal.specs.Refusal.{none, refused};
 ghost use Rattle.queue.specs.Limits.{maxGap, longest};
-ghost use Rattle.queue.specs.Holds.{inTicks, holdsb};
+ghost use Rattle.queue.specs.Holds.{inTicks};
 ghost use Rattle.queue.specs.Calls.{insertOf};
 ghost use Rattle.queue.specs.Steps.{emptyStep, fallsStep, nearerStep};
 ghost use Rattle.table.specs.Limits.{mostWork, entries};
 ghost use Rattle.table.specs.Table.{releaseNumber, periodOf};
-ghost use Rattle.table.specs.Sound.{usedb, tableb};
+ghost use Rattle.table.specs.Sound.{tableb};
 ghost use Rattle.scheduler.specs.State.{mostPending, zeroLoad, zeroEntry, withBudget};
 ghost use Rattle.scheduler.specs.Sound.{releaseReach, taskReaches, serverReaches, loadb, zeroLoadb, entryb, allSpentb, stateb};
 ghost use Rattle.scheduler.specs.Choice.{pendingb, firstPending, wantsb, readyb, chosenFrom, choiceBy};
@@ -171,7 +171,7 @@ pub fn run(s: State, k: usize) -> Batch
             count: 0,
         };
     }
-    ticks(s, least(k, State::BATCH))
+    ticks(s, small::least(k, State::BATCH))
 }
 
 // An arrival at a server's task, which takes effect for the next tick.
@@ -556,15 +556,6 @@ fn ticks(s: State, n: usize) -> Batch
         refusal: Refusal::none(),
         count: n,
     }
-}
-
-fn least(a: usize, b: usize) -> usize
-    ensures { λ r. ⌜ r ≡ pick (leb a b) a b ⌝ }
-{
-    if a <= b {
-        return a;
-    }
-    b
 }
 
 // ARRIVALS

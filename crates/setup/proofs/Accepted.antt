@@ -10,10 +10,11 @@ use lib.Dec.{ltb}
 use lib.ListN.{length, take, drop, getD, length-drop, take-append-drop}
 use lib.Seq.{take-at, take-all, drop-cons, length-take-le}
 use borrow.Author.Tests.{le-ltb, ltb-true, ltb-false}
-use Rattle.refusal.specs.Small.{padded}
+use Rattle.small.specs.Small.{padded, each}
+use Rattle.small.proofs.All.{All, all-take, all-at}
+use Rattle.small.proofs.Padded.{padded-take, padded-length, padded-used, padded-unused}
 use Rattle.refusal.specs.Numbers.{bytesLeft}
 use Rattle.refusal.specs.Refusal.{none, Check, checkAt, firstOf}
-use Rattle.refusal.proofs.Rows.{All, all-take, all-at, padded-take, padded-length, padded-used, padded-unused}
 use Rattle.refusal.proofs.Decided.{Decided, decided}
 use Rattle.refusal.proofs.Exactly.{Passed, passes}
 use Rattle.refusal.proofs.Joined.{passed-join, passed-parts, passed-none, Ranged, ranged-join, ranged-wider, ranged-numbered}
@@ -25,7 +26,7 @@ use Rattle.table.specs.Table.{zeroServer, zeroTable}
 use Rattle.table.specs.Meaning.{SoundTable, Sized}
 use Rattle.table.specs.declared.Server.{Server}
 use Rattle.table.specs.declared.Table.{Table}
-use Rattle.setup.specs.Layout.{each, serverBytes, recordBytes, bytesOf}
+use Rattle.setup.specs.Layout.{serverBytes, recordBytes, bytesOf}
 use Rattle.setup.specs.Read.{taskSize, taskChecks, tasksChecks, headSize, headChecks, serverSize, serverChecks, serversChecks, serversOf, serversSize}
 use Rattle.setup.specs.Read.{startChecks, endOf, setupChecks, tableOf, readWith, readOf}
 use Rattle.setup.specs.Records.{StartRight}

@@ -3,7 +3,7 @@
 use mathlib.Core.List.{List}
 use Prim.Native.Nat.{ℕ}
 use denote.Ref.{now}
-use Rattle.refusal.proofs.Outcome.{One, same}
+use Rattle.small.proofs.Outcome.{One, same}
 use Rattle.field.specs.declared.Written.{Written}
 use Rattle.setup.proofs.read.Reads as read
 use Rattle.setup.proofs.write.Reads as write

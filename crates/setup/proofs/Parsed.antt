@@ -8,10 +8,12 @@ use Prim.Native.Nat.{ℕ, zero, suc, _+_, _*_, _^_, _≤_, _<_}
 use native.Mathlib.Omega.{arith}
 use lib.Dec.{leb, ltb, eqb}
 use lib.ListN.{length, take, drop, length-append, length-drop}
-use lib.Seq.{take-add, take-at, drop-drop, drop-cons, drop-at, length-take-le}
+use lib.Seq.{take-add, take-at, drop-cons, drop-at, length-take-le}
 use borrow.Author.Tests.{eqb-true, eqb-false, le-leb, le-ltb, leb-true, ltb-false, not-false}
-use Rattle.refusal.specs.Small.{pick, padded}
-use Rattle.refusal.proofs.Rows.{All, all-take, all-at, padded-take, padded-length, padded-used, padded-unused}
+use Rattle.small.specs.Small.{pick, padded, each}
+use Rattle.small.proofs.All.{All, all-take, all-at}
+use Rattle.small.proofs.Padded.{padded-take, padded-length, padded-used, padded-unused}
+use Rattle.small.proofs.Lists.{take-next}
 use Rattle.refusal.proofs.Exactly.{Passed}
 use Rattle.refusal.proofs.Joined.{passed-join, passed-parts}
 use Rattle.field.specs.Field.{byteOf, fieldOf, big}
@@ -26,7 +28,7 @@ use Rattle.table.specs.declared.Release.the-variants.{OnArrival, Periodic}
 use Rattle.table.specs.declared.Task.{Task}
 use Rattle.table.specs.declared.Server.{Server}
 use Rattle.table.proofs.Soundness.{range-within, kind-known}
-use Rattle.setup.specs.Layout.{each, taskBytes, headBytes, serverBytes}
+use Rattle.setup.specs.Layout.{taskBytes, headBytes, serverBytes}
 use Rattle.setup.specs.Read.{taskSize, periodWrong, offsetWrong, taskChecks, releaseOf, taskOf, tasksChecks, tasksOf}
 use Rattle.setup.specs.Read.{headSize, headChecks, serverSize, serverChecks, serverOf, serversChecks, serversOf, serversSize}
 use Rattle.setup.proofs.Writing.{task-length, head-length, server-length}
@@ -34,9 +36,6 @@ use Rattle.setup.proofs.Writing.{task-length, head-length, server-lengt
 -- the bytes of a field
 pub field-bytes : (w at : ℕ) (bs : List ℕ) → Bytes bs → at + w ≤ length bs → big w (fieldOf w (drop at bs)) ≡ take w (drop at bs)
 field-bytes w at bs b h = big-field w (drop at bs) (bytes-drop at bs b) (rw length-drop (omega arith))
-
-take-next : {A : Type 0} (n m at : ℕ) (xs : List A) → take (n + m) (drop at xs) ≡ take n (drop at xs) ++ take m (drop (at + n) xs)
-take-next n m at xs = take-add n m (drop at xs) ∙ rw drop-drop
 
 take-byte : (n at : ℕ) (bs : List ℕ) → at < length bs → take (suc n) (drop at bs) ≡ byteOf at bs ∷ take n (drop (suc at) bs)
 take-byte n at bs h = rw (drop-cons bs at 0)

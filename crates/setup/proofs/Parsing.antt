@@ -10,11 +10,12 @@ use lib.Dec.{leb, ltb, eqb}
 use lib.ListN.{length, drop, set, replicate, length-drop}
 use lib.Seq.{drop-drop}
 use borrow.Author.Tests.{eq-eqb, ne-eqb, eqb-true, lt-ltb, le-ltb, ltb-false, leb-true, not-false}
-use Rattle.refusal.specs.Small.{pick, padded}
+use Rattle.small.specs.Small.{pick, padded}
+use Rattle.small.proofs.Padded.{padded-push}
+use Rattle.small.proofs.Tests.{both-right}
 use Rattle.refusal.specs.Numbers.{bytesLeft}
 use Rattle.refusal.specs.Refusal.{refused, none, Check, firstOf}
 use Rattle.refusal.specs.declared.Refusal.{Refusal}
-use Rattle.refusal.proofs.Small.{both-right, padded-push}
 use Rattle.refusal.proofs.Decided.{Decided, decided}
 use Rattle.refusal.proofs.Exactly.{Numbered, numbered, numbered-append, first-append, neither-refuses, passes}
 use Rattle.field.specs.Field.{byteOf, fieldOf}

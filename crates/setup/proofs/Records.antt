@@ -10,9 +10,9 @@ use lib.Dec.{leb, ltb, eqb}
 use lib.ListN.{length, drop, length-drop}
 use lib.Seq.{drop-drop, getD-drop}
 use borrow.Author.Tests.{eq-eqb, eqb-true, eqb-false, le-leb, leb-true, le-ltb, lt-ltb, ltb-true, ltb-false, not-false}
-use Rattle.refusal.specs.Small.{pick}
+use Rattle.small.specs.Small.{pick}
+use Rattle.small.proofs.Tests.{contrary}
 use Rattle.refusal.specs.Refusal.{Check}
-use Rattle.refusal.proofs.Small.{contrary}
 use Rattle.refusal.proofs.Exactly.{Passed}
 use Rattle.refusal.proofs.Joined.{passed-join, passed-parts}
 use Rattle.field.specs.Field.{byteOf, fieldOf}

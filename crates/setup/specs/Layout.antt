@@ -1,18 +1,14 @@
 -- The bytes of a table. "Setup: total length (2 bytes), version 1, number of servers, then each server: kind, number of tasks, P (4), C (4), then its
 -- tasks: release (0 on arrival, 1 periodic), E (4), T (4), O (4)." All numbers big-endian.
-use mathlib.Core.List.{List, [], _∷_, _++_}
+use mathlib.Core.List.{List, _∷_, _++_}
 use Prim.Native.Nat.{ℕ, _+_}
 use lib.ListN.{length, take}
+use Rattle.small.specs.Small.{each}
 use Rattle.field.specs.Field.{big}
 use Rattle.table.specs.Table.{releaseNumber, periodOf, offsetOf}
 use Rattle.table.specs.declared.Task.{Task}
 use Rattle.table.specs.declared.Server.{Server}
 use Rattle.table.specs.declared.Table.{Table}
-
--- the bytes of each, one after the other
-abbrev pub each : {A : Type 0} → (A → List ℕ) → List A → List ℕ
-each f [] = []
-each f (x ∷ xs) = f x ++ each f xs
 
 unfoldable pub taskBytes : Task → List ℕ
 taskBytes t =

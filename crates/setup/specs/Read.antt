@@ -5,7 +5,7 @@ use mathlib.Core.List.{List, [], _∷_, _++_}
 use Prim.Native.Nat.{ℕ, zero, suc, _+_, _*_}
 use lib.Dec.{leb, ltb, eqb}
 use lib.ListN.{length, drop}
-use Rattle.refusal.specs.Small.{pick, padded}
+use Rattle.small.specs.Small.{pick, padded}
 use Rattle.refusal.specs.Numbers.{setupShort, lengthDiffers, setupVersion, serverCount, recordCut, serverKind, taskCount, periodRange, budgetRange, releaseKind, workRange, releaseTimes, bytesLeft}
 use Rattle.refusal.specs.Refusal.{none, Check, check, checkAt, firstOf}
 use Rattle.refusal.specs.declared.Refusal.{Refusal}

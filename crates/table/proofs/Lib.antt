@@ -1,3 +1,3 @@
-pub mod Used
+pub mod Sizes
 pub mod Soundness
 pub mod OneOutcome

@@ -1,6 +1,6 @@
 -- ONE OUTCOME: any two outcomes that a public function's contract allows are equal. Stated over the contracts themselves: `f.Post κs a r e` is what the
 -- contract of `f` says of the arguments a, the result r and the parameters e as they are at exit. Assumes nothing.
-use Rattle.refusal.proofs.Outcome.{One, same}
+use Rattle.small.proofs.Outcome.{One, same}
 use Rattle.table.proofs.sound.Reads as sound
 use Rattle.table.proofs.server_sound.Reads as server-sound
 use Rattle.table.proofs.task_sound.Reads as task-sound

@@ -8,8 +8,9 @@ use lib.Dec.{leb, eqb}
 use lib.ListN.{length, getD, replicate, getD-replicate}
 use lib.Seq.{ext-getD}
 use borrow.Author.Tests.{leb-true, eqb-true, le-leb}
-use Rattle.refusal.specs.Small.{pick}
-use Rattle.refusal.proofs.Small.{both-left, both-right}
+use Rattle.small.specs.Small.{pick}
+use Rattle.small.proofs.Tests.{both-left, both-right}
+use Rattle.small.proofs.Used.{Each, each-from, each-to}
 use Rattle.table.specs.Limits.{entries}
 use Rattle.table.specs.Table.{zeroTask, zeroServer}
 use Rattle.table.specs.Sound.{rangeb, releaseb, taskb, arrivalb, zeroTaskb, kindb, serverb, zeroServerb, tableb}
@@ -19,7 +20,6 @@ use Rattle.table.specs.declared.Release.the-variants.{OnArrival, Periodi
 use Rattle.table.specs.declared.Task.{Task}
 use Rattle.table.specs.declared.Server.{Server}
 use Rattle.table.specs.declared.Table.{Table}
-use Rattle.table.proofs.Used.{Each, each-from, each-to}
 
 -- THE TESTS IN WORDS
 

@@ -1,9 +1,8 @@
 -- "A table alone is sound if its values are in range and its unused entries zero." D is the longest period and offset, W the most work.
 use mathlib.Core.Bool.{Bool, true, false}
-use mathlib.Core.List.{List, [], _∷_}
-use Prim.Native.Nat.{ℕ, zero, suc}
+use Prim.Native.Nat.{ℕ}
 use lib.Dec.{leb, eqb}
-use Rattle.refusal.specs.Small.{pick, both}
+use Rattle.small.specs.Small.{pick, both, usedb}
 use Rattle.table.specs.Limits.{entries}
 use Rattle.table.specs.declared.Release.{Release}
 use Rattle.table.specs.declared.Release.the-variants.{OnArrival, Periodic}
@@ -13,12 +12,6 @@ use Rattle.table.specs.declared.Table.{Table}
 
 abbrev pub rangeb : ℕ → ℕ → ℕ → Bool
 rangeb least most x = both (leb least x) (leb x most)
-
--- the first n entries are good, the others zero
-abbrev pub usedb : {A : Type 0} → (A → Bool) → (A → Bool) → List A → ℕ → Bool
-usedb good none [] n = true
-usedb good none (x ∷ xs) zero = both (none x) (usedb good none xs zero)
-usedb good none (x ∷ xs) (suc n) = both (good x) (usedb good none xs n)
 
 -- "T is 1 to 1,000,000, O is 0 to 1,000,000"
 abbrev pub releaseb : ℕ → Release → Bool

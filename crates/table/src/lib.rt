@@ -4,9 +4,9 @@ use queue::Distance;
 use queue::Queue;
 ghost use mathlib.Core.Path.{_≡_};
 ghost use mathlib.Core.Bool.{true, false};
-ghost use Rattle.refusal.specs.Small.{pick};
+ghost use Rattle.small.specs.Small.{pick};
 ghost use Rattle.queue.specs.Limits.{longest};
-ghost use Rattle.table.specs.Limits.{mostWork, entries};
+ghost use Rattle.table.specs.Limits.{mostWork};
 ghost use Rattle.table.specs.Table.{zeroTask, zeroServer, zeroTable};
 ghost use Rattle.table.specs.Sound.{rangeb, kindb, releaseb, taskb, zeroTaskb, tasksb, serverb, zeroServerb, tableb};
 

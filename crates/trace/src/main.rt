@@ -8,7 +8,7 @@ use lines::Line;
 use message::Message;
 use std::num::wrapping_add_u64;
 use std::num::wrapping_add_usize;
-ghost use Prim.Native.Nat.{_<_, _≤_};
+ghost use Prim.Native.Nat.{_<_};
 
 // The bytes of messages that are read at a time: whole messages.
 const CHUNK: usize = Message::LENGTH * 10_000;
@@ -27,17 +27,6 @@ struct Space {
     going: bool,
 }
 
-fn least(a: usize, b: usize) -> usize
-    ensures { λ r. ⌜ r ≤ a ⌝ }
-    ensures { λ r. ⌜ r ≤ b ⌝ }
-    ensures { λ r. ⌜ (0 < a → 0 < b → 0 < r) ⌝ }
-{
-    if a <= b {
-        return a;
-    }
-    b
-}
-
 fn with(desk: Desk, place: u64, at: usize, going: bool) -> Run {
     Run {
         desk: desk,
@@ -49,13 +38,18 @@ fn with(desk: Desk, place: u64, at: usize, going: bool) -> Run {
 
 // Writes the first n bytes out, or all where there are fewer.
 fn write(out: &[u8], n: usize) -> bool {
-    let end = least(n, out.len());
+    let end = small::least(n, out.len());
     io::write_all(STDOUT_FILENO, &out[..end])
 }
 
 // Writes out what the buffer holds, where it may not have room for a batch of lines.
 fn spare(out: &[u8], at: usize) -> Space {
-    if at <= least(out.len(), out.len() - least(lines::BATCH_ROOM, out.len())) {
+    if at
+        <= small::least(
+            out.len(),
+            out.len() - small::least(lines::BATCH_ROOM, out.len()),
+        )
+    {
         return Space {
             at: at,
             going: true,
@@ -135,7 +129,7 @@ fn chunk(bytes: &[u8], out: &mut [u8], r: Run) -> Run {
     let mut run = r;
     let mut i: usize = 0;
     while i < bytes.len() {
-        let end = i + least(bytes.len() - i, Message::LENGTH);
+        let end = i + small::least(bytes.len() - i, Message::LENGTH);
         run = one_message(&bytes[i..end], out, run);
         if !run.going {
             return run;
@@ -157,8 +151,8 @@ fn finish(out: &mut [u8], r: Run) {
 
 // One chunk read and handed over.
 fn turn(input: &mut [u8], out: &mut [u8], r: Run) -> Run {
-    let most = least(CHUNK, input.len());
-    let n = least(io::read_full(STDIN_FILENO, &mut input[..most]), input.len());
+    let most = small::least(CHUNK, input.len());
+    let n = small::least(io::read_full(STDIN_FILENO, &mut input[..most]), input.len());
     let run = chunk(&input[..n], out, r);
     if !run.going {
         return run;
@@ -186,11 +180,11 @@ fn messages(input: &mut [u8], out: &mut [u8], r: Run) {
 
 // As many bytes as the first two say, or all there are.
 fn read_setup(input: &mut [u8]) -> usize {
-    let two = least(2, input.len());
+    let two = small::least(2, input.len());
     let head = io::read_full(STDIN_FILENO, &mut input[..two]);
-    let stated = least(field::two(input, 0, 0) as usize, input.len());
+    let stated = small::least(field::two(input, 0, 0) as usize, input.len());
     if stated <= two {
-        return least(stated, head);
+        return small::least(stated, head);
     }
     if head < two {
         return head;
@@ -199,7 +193,7 @@ fn read_setup(input: &mut [u8]) -> usize {
 }
 
 fn program(input: &mut [u8], out: &mut [u8]) {
-    let n = least(read_setup(input), input.len());
+    let n = small::least(read_setup(input), input.len());
     let o = desk::open(&input[..n]);
     let t = behind(0, lines::header(out, 0));
     if !t.going {

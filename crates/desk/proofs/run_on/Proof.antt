@@ -7,7 +7,7 @@ use Prim.Native.Nat.{ℕ, _+_, _-_, _≤_}
 use native.Mathlib.Omega.{arith}
 use lib.Dec.{ltb, eqb}
 use borrow.Author.Needs.{needs}
-use Rattle.refusal.specs.Small.{pick}
+use Rattle.small.specs.Small.{pick}
 use Rattle.refusal.specs.Numbers.{ticksPassed, unsound}
 use Rattle.refusal.specs.Refusal.{refused}
 use Rattle.scheduler.specs.Sound.{stateb}

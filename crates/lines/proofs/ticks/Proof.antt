@@ -14,7 +14,7 @@ use Rattle.scheduler.specs.declared.Answer.{Answer}
 use Rattle.field.proofs.Fields.{over-nil}
 use Rattle.lines.specs.Lines.{batchRoom, answerLines}
 use Rattle.lines.proofs.Pieces.{Puts, puts-length, puts-two, has-room, no-room, stands, stands-not}
-use Rattle.lines.proofs.Batch.{lines-more, lines-least, least-most, lines-length, lines-next}
+use Rattle.lines.proofs.Batch.{lines-more, lines-least, lines-length, lines-next}
 use Rattle.lines.proofs.ticks.Statement.{statement}
 use Rattle.lines.proofs.ticks.Tie as tie
 
@@ -29,7 +29,7 @@ zero-answer = record { choice = Idle; handled = 0 }
 
 -- as many lines as are written are all that are asked for
 few : (c : tie.After-least Inv-loop μ-loop) → c .least .result ≤ batchSize
-few c = rw (c .least .ensures) (least-most (c .before .before .args .count) batchSize)
+few c = omega (arith, c .least .ensures)
 
 all : (c : tie.After-least Inv-loop μ-loop) → let a = c .before .before .args in
     answerLines (a .first) (a .count) (a .t4) ≡ answerLines (a .first) (c .least .result) (a .t4)

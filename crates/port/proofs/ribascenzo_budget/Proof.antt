@@ -5,16 +5,17 @@ use Prim.Native.Nat.{_≤_}
 use native.Mathlib.Omega.{arith}
 use borrow.Author.Needs.{needs}
 use borrow.Author.Tests.{not-false, lt-ltb, le-ltb}
+use Rattle.small.proofs.Lists.{getD-inside}
 use Rattle.table.specs.Limits.{entries}
 use Rattle.scheduler.specs.State.{zeroEntry}
 use Rattle.scheduler.specs.Sound.{stateb}
-use Rattle.port.proofs.Places.{same-at, past}
+use Rattle.scheduler.proofs.Sizes.{pastEntry}
 use Rattle.port.proofs.Sizing.{state-in-full}
 use Rattle.port.proofs.Ranges.{table-range, table-of}
 use Rattle.port.proofs.ribascenzo_budget.Statement.{statement}
 use Rattle.port.proofs.ribascenzo_budget.Tie as tie
 
--- past its test the state is sound, and so its table has no more servers than entries
+-- pastEntry its test the state is sound, and so its table has no more servers than entries
 few : (c : tie.Else1) → c .before .before .state-in .result .table .count ≤ entries
 few c =
     let s = c .before .before .state-in .result in
@@ -60,7 +61,7 @@ returns-3 c =
     let k = e .before in
     let s = k .before .state-in in
     let full = state-in-full (k .before .before .args .s .now) .count in
-    let here = same-at (s .result .entries) (k .before .before .args .server) past zeroEntry (rw (s .ensures) (omega (arith, few e))) in
+    let here = getD-inside (s .result .entries) (k .before .before .args .server) pastEntry zeroEntry (rw (s .ensures) (omega (arith, few e))) in
     rw (← s .ensures, ← k .sound .ensures, e .if1 .left, lt-ltb _ _ (t .if2 .left)) (c .none .ensures, rw here)
 
 pub ribascenzo-budget-spec : {M : Type 1} → statement M

@@ -6,27 +6,28 @@ use native.Mathlib.Omega.{arith}
 use lib.ListN.{getD}
 use borrow.Author.Needs.{needs}
 use borrow.Author.Tests.{not-false, lt-ltb, le-ltb}
-use Rattle.refusal.proofs.Rows.{all-at}
+use Rattle.small.proofs.All.{all-at}
+use Rattle.small.proofs.Lists.{getD-inside}
 use Rattle.table.specs.Limits.{entries}
 use Rattle.table.specs.Table.{zeroServer}
-use Rattle.setup.proofs.Writing.{past as pastServer}
+use Rattle.table.proofs.Sizes.{pastServer as pastServer}
 use Rattle.scheduler.specs.State.{zeroEntry, serverAt, entryAt}
 use Rattle.scheduler.specs.Sound.{stateb}
 use Rattle.scheduler.specs.declared.State.{State}
-use Rattle.port.proofs.Places.{same-at, past}
+use Rattle.scheduler.proofs.Sizes.{pastEntry}
 use Rattle.port.proofs.Sizing.{FullState, state-in-full}
 use Rattle.port.proofs.Ranges.{ServerRange, TableRange, table-range, table-of}
 use Rattle.port.proofs.ribascenzo_load.Statement.{statement}
 use Rattle.port.proofs.ribascenzo_load.Tie as tie
 
--- past its test the state is sound, and so its counts are in range
+-- pastEntry its test the state is sound, and so its counts are in range
 range : (c : tie.Else1) → TableRange (c .before .before .state-in .result .table)
 range c =
     let s = c .before .before .state-in .result in
     let sound : stateb s ≡ true = rw (← c .before .sound .ensures) (not-false _ (c .if1 .left)) in
     table-range (s .table) (table-of s sound)
 
--- past the test of the server
+-- pastEntry the test of the server
 module _ (c : tie.Else2) where
   abbrev else1 : tie.Else1
   else1 = c .before .before
@@ -45,14 +46,14 @@ module _ (c : tie.Else2) where
 
   -- the server, as the code reads it
   server : getD (state .table .servers) (start .args .server) pastServer ≡ serverAt state (start .args .server)
-  server = same-at (state .table .servers) (start .args .server) pastServer zeroServer (omega (arith, below, full .table .count))
+  server = getD-inside (state .table .servers) (start .args .server) pastServer zeroServer (omega (arith, below, full .table .count))
 
   count : getD (state .table .servers) (start .args .server) pastServer .count ≤ entries
   count = all-at ServerRange pastServer (state .table .servers) (range else1 .servers) (start .args .server) (omega (arith, below, full .table .count)) .count
 
   -- its entry
-  entry : getD (state .entries) (start .args .server) past ≡ entryAt state (start .args .server)
-  entry = same-at (state .entries) (start .args .server) past zeroEntry (omega (arith, below, full .count))
+  entry : getD (state .entries) (start .args .server) pastEntry ≡ entryAt state (start .args .server)
+  entry = getD-inside (state .entries) (start .args .server) pastEntry zeroEntry (omega (arith, below, full .count))
 
 state-in-requires : tie.Need-state-in-requires
 state-in-requires c κs = search needs

@@ -9,7 +9,7 @@ use lib.Dec.{ltb}
 use lib.ListN.{length, getD, drop, drop-of-length-le}
 use lib.Seq.{drop-cons}
 use borrow.Author.Tests.{not-true, not-false, lt-ltb, le-ltb}
-use Rattle.refusal.specs.Small.{pick, both}
+use Rattle.small.specs.Small.{pick, both}
 use Rattle.queue.specs.Holds.{inTicks}
 use Rattle.queue.specs.Moves.{seenb}
 use Rattle.queue.proofs.Holding.{ticks-length, ticks-at}

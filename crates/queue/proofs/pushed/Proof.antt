@@ -8,7 +8,7 @@ use lib.Dec.{eqb}
 use lib.ListN.{length, drop, length-map}
 use borrow.Author.Needs.{needs}
 use borrow.Author.Tests.{eq-eqb, eqb-false}
-use Rattle.refusal.proofs.Small.{both-true}
+use Rattle.small.proofs.Tests.{both-true}
 use Rattle.queue.specs.Limits.{maxGap, cellCount}
 use Rattle.queue.specs.Row.{cell, cellsOf, queueOf}
 use Rattle.queue.specs.Steps.{firstCell}

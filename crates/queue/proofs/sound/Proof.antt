@@ -9,8 +9,8 @@ use lib.Dec.{eqb}
 use lib.ListN.{length, take, drop, getD, length-map, take-append-drop}
 use borrow.Author.Needs.{needs}
 use borrow.Author.Tests.{lt-leb, le-leb, not-true, not-false}
-use Rattle.refusal.specs.Small.{both}
-use Rattle.refusal.proofs.Small.{both-false}
+use Rattle.small.specs.Small.{both}
+use Rattle.small.proofs.Tests.{both-false}
 use Rattle.queue.specs.Limits.{maxGap, longest, cellCount, filler}
 use Rattle.queue.specs.Row.{cell, cellsOf, eventsFrom}
 use Rattle.queue.specs.Sound.{distinctb, soundb}

@@ -5,7 +5,7 @@ use native.Mathlib.Omega.{arith}
 use lib.Dec.{leb}
 use borrow.Author.Needs.{needs}
 use borrow.Author.Tests.{le-leb}
-use Rattle.refusal.proofs.Small.{both-true}
+use Rattle.small.proofs.Tests.{both-true}
 use Rattle.queue.specs.Limits.{maxGap}
 use Rattle.queue.proofs.Scan.{empty-filler}
 use Rattle.queue.proofs.spaced.Statement.{statement}

@@ -5,6 +5,7 @@ use Prim.Native.Nat.{ℕ, _+_, _<_}
 use native.Mathlib.Omega.{arith}
 use borrow.Author.Needs.{needs}
 use lib.ListN.{length, set, length-map}
+use Rattle.small.proofs.Altered.{set-alter}
 use Rattle.queue.specs.Limits.{maxGap}
 use Rattle.queue.specs.Steps.{againStep}
 use Rattle.table.specs.Limits.{entries}
@@ -15,7 +16,6 @@ use Rattle.scheduler.specs.Moves.{Clocked, Arriving, oneArrival, dueTurn
 use Rattle.scheduler.specs.Tick.{taskDelay}
 use Rattle.scheduler.specs.declared.Entry.{Entry}
 use Rattle.scheduler.specs.declared.EntryTurn.{EntryTurn}
-use Rattle.scheduler.proofs.Lists.{set-alter}
 use Rattle.scheduler.proofs.Stated.{below-at}
 use Rattle.scheduler.proofs.Arrivals.{tabled-work, arrival-small, arrival-clocked, arrival-length, arrival-less, arrival-same, arrivals-few, arrivals-none}
 use Rattle.scheduler.proofs.all_due.Statement.{statement}

@@ -7,7 +7,8 @@ use borrow.Author.Needs.{needs}
 use lib.ListN.{length, getD, drop, length-map}
 use Rattle.table.specs.Limits as limits
 use Rattle.scheduler.specs.Sound.{spentb, allSpentb}
-use Rattle.scheduler.proofs.Lists.{pastServer, pastEntry}
+use Rattle.scheduler.proofs.Sizes.{pastEntry}
+use Rattle.table.proofs.Sizes.{pastServer}
 use Rattle.scheduler.proofs.Stated.{paired-stop, paired-go, paired-end}
 use Rattle.scheduler.proofs.Lapsing.{gives-none}
 use Rattle.scheduler.proofs.all_spent.Statement.{statement}

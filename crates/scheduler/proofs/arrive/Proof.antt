@@ -8,14 +8,15 @@ use borrow.Author.Needs.{needs}
 use borrow.Author.Tests.{lt-ltb, le-ltb, not-true, not-false}
 use lib.Dec.{eqb}
 use lib.ListN.{length, getD, set}
+use Rattle.small.proofs.Lists.{getD-inside}
 use Rattle.table.specs.Limits.{mostWork, entries}
 use Rattle.table.specs.Table.{zeroTask, zeroServer, releaseNumber}
 use Rattle.scheduler.specs.State.{mostPending, zeroLoad, zeroEntry, serverAt, entryAt, taskAt}
 use Rattle.scheduler.specs.Sound.{stateb}
 use Rattle.scheduler.specs.Arrive.{withLoads, arrivedState, arriveOf}
-use Rattle.scheduler.proofs.Lists.{pastServer, pastEntry, getD-inside}
+use Rattle.table.proofs.Sizes.{pastServer}
 use Rattle.scheduler.proofs.Stated.{Eight, stated}
-use Rattle.scheduler.proofs.Sizes.{state-eight, state-loads}
+use Rattle.scheduler.proofs.Sizes.{state-eight, state-loads, pastEntry}
 use Rattle.scheduler.proofs.Reached.{Reached, reached, arrival-stored}
 use Rattle.scheduler.proofs.arrive.Statement.{statement}
 use Rattle.scheduler.proofs.arrive.Tie as tie

@@ -5,11 +5,11 @@ use native.Mathlib.Omega.{arith}
 use borrow.Author.Needs.{needs}
 use borrow.Author.Tests.{ltb-true}
 use lib.ListN.{length, getD, length-map}
+use Rattle.small.proofs.Altered.{set-alter, alter-past}
 use Rattle.table.specs.Limits.{entries}
 use Rattle.scheduler.specs.State.{zeroLoad}
 use Rattle.scheduler.specs.Choice.{firstPending}
 use Rattle.scheduler.specs.Tick.{lessWork, charge}
-use Rattle.scheduler.proofs.Lists.{set-alter, alter-past}
 use Rattle.scheduler.proofs.Choosing.{first-pending}
 use Rattle.scheduler.proofs.charged.Statement.{statement}
 use Rattle.scheduler.proofs.charged.Tie as tie

@@ -7,7 +7,8 @@ use borrow.Author.Needs.{needs}
 use lib.ListN.{length, getD, drop, length-map}
 use Rattle.table.specs.Limits as limits
 use Rattle.scheduler.specs.Choice.{readyb, chosenFrom}
-use Rattle.scheduler.proofs.Lists.{pastServer, pastEntry}
+use Rattle.scheduler.proofs.Sizes.{pastEntry}
+use Rattle.table.proofs.Sizes.{pastServer}
 use Rattle.scheduler.proofs.Choosing.{Search, chosen-search, search-here, search-next, search-end}
 use Rattle.scheduler.proofs.chosen.Statement.{statement}
 use Rattle.scheduler.proofs.chosen.Tie as tie

@@ -5,7 +5,7 @@ use native.Mathlib.Omega.{arith}
 use borrow.Author.Needs.{needs}
 use borrow.Author.Tests.{eq-eqb, ne-eqb, le-ltb, lt-ltb}
 use lib.ListN.{length, length-map}
-use Rattle.refusal.proofs.Small.{both-true, both-false}
+use Rattle.small.proofs.Tests.{both-true, both-false}
 use Rattle.table.specs.Limits.{entries}
 use Rattle.scheduler.specs.Choice.{somePending}
 use Rattle.scheduler.specs.Polling.{lapsesb}

@@ -1,7 +1,7 @@
 -- `scheduler::load_sound` meets its contract: the branch is the definition's test, and a lost count of 16 bits is never above 65,535.
 use native.Mathlib.Omega.{arith}
 use borrow.Author.Tests.{le-leb, eq-eqb, ne-eqb}
-use Rattle.refusal.proofs.Small.{both-true}
+use Rattle.small.proofs.Tests.{both-true}
 use Rattle.scheduler.specs.State.{mostLost}
 use Rattle.scheduler.proofs.load_sound.Statement.{statement}
 use Rattle.scheduler.proofs.load_sound.Tie as tie

@@ -5,9 +5,9 @@ use native.Mathlib.Omega.{arith}
 use borrow.Author.Needs.{needs}
 use borrow.Author.Tests.{not-true, not-false}
 use lib.ListN.{length, drop, length-map}
+use Rattle.small.specs.Small.{usedb}
+use Rattle.small.proofs.Used.{used-start, used-stop, used-go, used-end}
 use Rattle.table.specs.Limits.{entries}
-use Rattle.table.specs.Sound.{usedb}
-use Rattle.table.proofs.Used.{used-start, used-stop, used-go, used-end}
 use Rattle.scheduler.specs.State.{zeroLoad}
 use Rattle.scheduler.specs.Sound.{loadb, zeroLoadb}
 use Rattle.scheduler.proofs.loads_sound.Statement.{statement}

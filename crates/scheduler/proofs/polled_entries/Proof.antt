@@ -7,9 +7,10 @@ use native.Mathlib.Omega.{arith}
 use borrow.Author.Tests.{ne-eqb}
 use lib.Dec.{eqb}
 use lib.ListN.{length, getD, length-map}
+use Rattle.small.proofs.Lists.{getD-inside}
 use Rattle.table.specs.Limits.{entries}
 use Rattle.table.specs.Table.{zeroServer}
-use Rattle.scheduler.proofs.Lists.{pastServer, getD-inside}
+use Rattle.table.proofs.Sizes.{pastServer}
 use Rattle.scheduler.proofs.Stated.{TableStated, table-stated}
 use Rattle.scheduler.proofs.Lapsing.{polled-all, polled-none}
 use Rattle.scheduler.proofs.polled_entries.Statement.{statement}

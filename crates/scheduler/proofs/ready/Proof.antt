@@ -2,7 +2,7 @@
 use native.Mathlib.Omega.{arith}
 use borrow.Author.Needs.{needs}
 use borrow.Author.Tests.{le-ltb, lt-ltb}
-use Rattle.refusal.proofs.Small.{both-true, both-false}
+use Rattle.small.proofs.Tests.{both-true, both-false}
 use Rattle.scheduler.proofs.ready.Statement.{statement}
 use Rattle.scheduler.proofs.ready.Tie as tie
 

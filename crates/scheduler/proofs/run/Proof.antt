@@ -2,6 +2,7 @@
 use mathlib.Core.Path.{_≡_, sym, ap, _∙_}
 use mathlib.Core.Bool.{true, false}
 use Prim.Native.Nat.{ℕ}
+use native.Mathlib.Omega.{arith}
 use borrow.Author.Needs.{needs}
 use borrow.Author.Tests.{not-true, not-false}
 use Rattle.refusal.specs.Refusal.{none}
@@ -9,7 +10,6 @@ use Rattle.scheduler.specs.Sound.{stateb}
 use Rattle.scheduler.specs.Run.{answersOf, stateAfterTicks, batchWith, runOf}
 use Rattle.scheduler.proofs.Refusals.{run-accepted}
 use Rattle.scheduler.proofs.Unchanged.{run-done}
-use Rattle.scheduler.proofs.Runs.{ticks-few}
 use Rattle.scheduler.proofs.run.Statement.{statement}
 use Rattle.scheduler.proofs.run.Tie as tie
 
@@ -32,7 +32,7 @@ known : (c : tie.Else1) → stateb (c .before .before .args .s) ≡ true
 known c = sym (c .before .sound .ensures) ∙ not-false _ (c .if1 .left)
 
 ticks-requires : tie.Need-ticks-requires
-ticks-requires c κs = (known (c .before), rw (c .least .ensures) (ticks-few (c .before .before .before .args .k)))
+ticks-requires c κs = (known (c .before), omega (arith, c .least .ensures))
 
 returns-2 : tie.Need-returns-2
 returns-2 c =

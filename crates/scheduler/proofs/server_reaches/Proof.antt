@@ -4,11 +4,12 @@ use mathlib.Core.List.{_++_}
 use Prim.Native.Nat.{_+_, _-_, _≤_}
 use native.Mathlib.Omega.{arith}
 use lib.ListN.{length, getD, drop, take, length-map, length-set, drop-of-length-le}
+use Rattle.small.proofs.Lists.{drop-step, built-more, built-end}
 use Rattle.queue.specs.Holds.{inTicks}
 use Rattle.queue.proofs.Holding.{ticks-length, ticks-set}
 use Rattle.table.specs.Limits.{entries}
 use Rattle.scheduler.specs.Sound.{serverReaches}
-use Rattle.scheduler.proofs.Lists.{pastServer, drop-step, built-more, built-end}
+use Rattle.table.proofs.Sizes.{pastServer}
 use Rattle.scheduler.proofs.server_reaches.Statement.{statement}
 use Rattle.scheduler.proofs.server_reaches.Tie as tie
 

@@ -11,9 +11,9 @@ use Rattle.queue.specs.Holds.{holdsb}
 use Rattle.table.specs.Limits.{entries, mostWork}
 use Rattle.table.specs.Sound.{tableb}
 use Rattle.scheduler.specs.Sound.{serverReaches, entryb, entriesb, stateb}
-use Rattle.scheduler.proofs.Lists.{pastServer, pastEntry}
+use Rattle.table.proofs.Sizes.{pastServer}
 use Rattle.scheduler.proofs.Stated.{Eight, paired-stop, paired-go, paired-end}
-use Rattle.scheduler.proofs.Sizes.{state-eight}
+use Rattle.scheduler.proofs.Sizes.{state-eight, pastEntry}
 use Rattle.scheduler.proofs.sound.Statement.{statement}
 use Rattle.scheduler.proofs.sound.Tie as tie
 

@@ -5,12 +5,12 @@ use Prim.Native.Nat.{_+_, _-_, _≤_}
 use native.Mathlib.Omega.{arith}
 use borrow.Author.Needs.{needs}
 use lib.ListN.{length, getD, drop, take, length-map, length-set, drop-of-length-le}
+use Rattle.small.proofs.Lists.{drop-step, built-more, built-end}
 use Rattle.queue.specs.Holds.{inTicks}
 use Rattle.queue.proofs.Holding.{ticks-length, ticks-set}
 use Rattle.table.specs.Limits.{entries}
 use Rattle.table.specs.Table.{zeroTask}
 use Rattle.scheduler.specs.Sound.{releaseReach, taskReaches}
-use Rattle.scheduler.proofs.Lists.{drop-step, built-more, built-end}
 use Rattle.scheduler.proofs.task_reaches.Statement.{statement}
 use Rattle.scheduler.proofs.task_reaches.Tie as tie
 

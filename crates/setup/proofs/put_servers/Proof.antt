@@ -4,12 +4,14 @@ use mathlib.Core.Path.{_≡_}
 use Prim.Native.Nat.{_+_, _≤_, _-_}
 use native.Mathlib.Omega.{arith}
 use lib.ListN.{length, take, getD}
+use Rattle.small.specs.Small.{each}
 use Rattle.queue.specs.Limits.{longest}
 use Rattle.table.specs.Limits.{entries, mostWork}
 use Rattle.table.specs.Meaning.{Sized}
 use Rattle.table.specs.declared.Server.{Server}
-use Rattle.setup.specs.Layout.{each, serverBytes, recordBytes}
-use Rattle.setup.proofs.Writing.{Done, done-start, done-length, done-room, done-more, table-sized, past, Fit, used-most, used-fit}
+use Rattle.setup.specs.Layout.{serverBytes, recordBytes}
+use Rattle.table.proofs.Sizes.{table-sized, pastServer}
+use Rattle.setup.proofs.Writing.{Done, done-start, done-length, done-room, done-more, Fit, used-most, used-fit}
 use Rattle.setup.proofs.put_servers.Statement.{statement}
 use Rattle.setup.proofs.put_servers.Tie as tie
 
@@ -42,13 +44,13 @@ module _ (c : tie.In-loop Inv-loop μ-loop) where
 
   -- the server at i
   abbrev server : Server
-  server = getD (start .args .t2 .servers) (loop .loop .i) past
+  server = getD (start .args .t2 .servers) (loop .loop .i) pastServer
 
   fit : Fit server
   fit = used-fit longest mostWork _ (full start) (start .pre .0) _ (c .loop-test .taken)
 
   room : loop .loop .at + length (serverBytes server) ≤ length (loop .loop .out)
-  room = done-room serverBytes _ _ _ (start .args .t2 .count) (enough start) (space start) (c .loop-test .taken) (loop .loop .inv .1) past
+  room = done-room serverBytes _ _ _ (start .args .t2 .count) (enough start) (space start) (c .loop-test .taken) (loop .loop .inv .1) pastServer
 
   same : length (loop .loop .out) ≡ length (start .args .out .now)
   same = done-length serverBytes _ _ _ (loop .loop .inv .1)
@@ -89,7 +91,7 @@ loop-again c =
     let s = c .before .before .before .before .before .before in
     let put = c .before .before .before .put-server in (
       omega arith,
-      done-more serverBytes _ _ _ (start s .args .t2 .count) (enough (start s)) (space (start s)) (s .loop-test .taken) (loop s .loop .inv .1) past _ _ (omega (arith, fit s .size)) (put .ensures),
+      done-more serverBytes _ _ _ (start s .args .t2 .count) (enough (start s)) (space (start s)) (s .loop-test .taken) (loop s .loop .inv .1) pastServer _ _ (omega (arith, fit s .size)) (put .ensures),
     )
 
 same-length : tie.Need-same-length Inv-loop μ-loop

@@ -4,12 +4,15 @@ use mathlib.Core.Path.{_≡_}
 use Prim.Native.Nat.{_+_, _*_, _≤_, _<_, _-_}
 use native.Mathlib.Omega.{arith}
 use lib.ListN.{length, take, getD}
+use Rattle.small.specs.Small.{each}
+use Rattle.small.proofs.Each.{length-more}
 use Rattle.queue.specs.Limits.{longest}
 use Rattle.table.specs.Limits.{entries, mostWork}
 use Rattle.table.specs.Meaning.{Sized}
-use Rattle.setup.specs.Layout.{each, serverBytes, recordBytes}
+use Rattle.setup.specs.Layout.{serverBytes, recordBytes}
 use Rattle.setup.specs.Read.{taskSize, headSize}
-use Rattle.setup.proofs.Writing.{length-more, table-length, table-sized, past, Fit, used-most, used-fit}
+use Rattle.table.proofs.Sizes.{table-sized, pastServer}
+use Rattle.setup.proofs.Writing.{table-length, Fit, used-most, used-fit}
 use Rattle.setup.proofs.size_of.Statement.{statement}
 use Rattle.setup.proofs.size_of.Tie as tie
 
@@ -28,7 +31,7 @@ module _ (c : tie.Start Inv-loop μ-loop) where
   few = used-most longest mostWork _ full (c .pre)
 
 -- the server at i
-fit : (c : tie.In-loop Inv-loop μ-loop) → Fit (getD (c .before .before .args .t1 .servers) (c .before .loop .i) past)
+fit : (c : tie.In-loop Inv-loop μ-loop) → Fit (getD (c .before .before .args .t1 .servers) (c .before .loop .i) pastServer)
 fit c =
     let start = c .before .before in
     used-fit longest mostWork _ (full start) (start .pre) _ (c .loop-test .taken)
@@ -63,7 +66,7 @@ loop-again c =
     let start = l .before in
     let s = fit (c .before .before) in
     let h : l .loop .i < length (start .args .t1 .servers) = omega (arith, few start, full start .servers) in
-    (omega arith, omega (arith, length-more serverBytes (start .args .t1 .servers) (l .loop .i) past h), omega arith)
+    (omega arith, omega (arith, length-more serverBytes (start .args .t1 .servers) (l .loop .i) pastServer h), omega arith)
 
 returns : tie.Need-returns Inv-loop μ-loop
 unfolding recordBytes

@@ -15,7 +15,8 @@ use Rattle.queue.specs.Limits.{longest}
 use Rattle.table.specs.Limits.{mostWork}
 use Rattle.table.specs.Sound.{tableb}
 use Rattle.setup.specs.Layout.{recordBytes, bytesOf}
-use Rattle.setup.proofs.Writing.{further, table-length, table-sized, used-most}
+use Rattle.table.proofs.Sizes.{table-sized}
+use Rattle.setup.proofs.Writing.{further, table-length, used-most}
 use Rattle.setup.proofs.write.Statement.{statement}
 use Rattle.setup.proofs.write.Tie as tie
 

@@ -5,10 +5,10 @@ use mathlib.Core.Bool.{true}
 use borrow.Author.Needs.{needs}
 use borrow.Author.Tests.{eq-eqb, ne-eqb}
 use lib.Dec.{eqb}
+use Rattle.small.proofs.Used.{used-none}
 use Rattle.queue.specs.Limits.{longest}
 use Rattle.table.specs.Limits.{mostWork}
 use Rattle.table.specs.Sound.{taskb, zeroTaskb}
-use Rattle.table.proofs.Used.{used-none}
 use Rattle.table.proofs.server_zero.Statement.{statement}
 use Rattle.table.proofs.server_zero.Tie as tie
 

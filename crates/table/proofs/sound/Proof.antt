@@ -1,17 +1,16 @@
 -- `table::sound` meets its contract. The loop's invariant: the whole test of the servers is what is left of it from the server at i on (proofs/Used.antt).
 use mathlib.Core.Path.{_≡_, sym, _∙_}
-use mathlib.Core.List.{[]}
 use Prim.Native.Nat.{_≤_, _-_}
 use native.Mathlib.Omega.{arith}
 use borrow.Author.Needs.{needs}
 use borrow.Author.Tests.{le-leb, lt-leb, not-true, not-false}
 use lib.ListN.{length, drop, length-map}
+use Rattle.small.specs.Small.{usedb}
+use Rattle.small.proofs.Used.{used-start, used-stop, used-go, used-end}
+use Rattle.table.proofs.Sizes.{pastServer}
 use Rattle.queue.specs.Limits.{longest}
 use Rattle.table.specs.Limits.{entries, mostWork}
-use Rattle.table.specs.Table.{ticks, served}
-use Rattle.table.specs.declared.Server.{Server}
-use Rattle.table.specs.Sound.{usedb, serverb, zeroServerb, tableb}
-use Rattle.table.proofs.Used.{used-start, used-stop, used-go, used-end}
+use Rattle.table.specs.Sound.{serverb, zeroServerb, tableb}
 use Rattle.table.proofs.sound.Statement.{statement}
 use Rattle.table.proofs.sound.Tie as tie
 
@@ -25,10 +24,6 @@ abbrev μ-loop : tie.MeasureT-loop
 
 full : (c : tie.Start Inv-loop μ-loop) → length (c .args .t1 .servers) ≡ entries
 full c = rw length-map at (c .good .0 .1 .1 .0 .1 .0 .1)
-
--- what the code's read of a server would give past the end of the list
-abbrev past : Server
-past = record { tasks = []; count = 0; kind = 0; period = ticks 0; budget = served 0 }
 
 -- past both tests of the count the table is sound exactly when its servers are
 counted : (c : tie.Else2 Inv-loop μ-loop)
@@ -64,7 +59,7 @@ returns-3 c =
     let l = c .before .before .before .before in
     let t = l .before .before .before .args .t1 in
     let h = full (l .before .before .before) in
-    used-stop (serverb longest mostWork) zeroServerb (t .servers) (t .count) (l .loop .i) past (l .loop .inv .1) (omega arith) (sym (c .before .entry-sound .ensures) ∙ not-true _ (c .if3 .taken)) ∙ counted (l .before)
+    used-stop (serverb longest mostWork) zeroServerb (t .servers) (t .count) (l .loop .i) pastServer (l .loop .inv .1) (omega arith) (sym (c .before .entry-sound .ensures) ∙ not-true _ (c .if3 .taken)) ∙ counted (l .before)
 
 add-i : tie.Need-add-i Inv-loop μ-loop
 add-i c = omega arith
@@ -77,14 +72,14 @@ loop-again c =
     let l = c .before .before .before .before in
     let t = l .before .before .before .args .t1 in
     let h = full (l .before .before .before) in
-    (omega arith, used-go (serverb longest mostWork) zeroServerb (t .servers) (t .count) (l .loop .i) past (l .loop .inv .1) (omega arith) (sym (c .before .entry-sound .ensures) ∙ not-false _ (c .if3 .left)))
+    (omega arith, used-go (serverb longest mostWork) zeroServerb (t .servers) (t .count) (l .loop .i) pastServer (l .loop .inv .1) (omega arith) (sym (c .before .entry-sound .ensures) ∙ not-false _ (c .if3 .left)))
 
 returns-4 : tie.Need-returns-4 Inv-loop μ-loop
 returns-4 c =
     let l = c .before in
     let t = l .before .before .before .args .t1 in
     let h = full (l .before .before .before) in
-    used-end (serverb longest mostWork) zeroServerb (t .servers) (t .count) (l .loop .i) past (l .loop .inv .1) (omega arith) ∙ counted (l .before)
+    used-end (serverb longest mostWork) zeroServerb (t .servers) (t .count) (l .loop .i) pastServer (l .loop .inv .1) (omega arith) ∙ counted (l .before)
 
 pub sound-spec : {M : Type 1} → statement M
 sound-spec =

@@ -5,11 +5,12 @@ use native.Mathlib.Omega.{arith}
 use borrow.Author.Needs.{needs}
 use borrow.Author.Tests.{not-true, not-false}
 use lib.ListN.{length, drop, length-map}
+use Rattle.small.specs.Small.{usedb}
+use Rattle.small.proofs.Used.{used-start, used-stop, used-go, used-end}
 use Rattle.queue.specs.Limits.{longest}
 use Rattle.table.specs.Limits.{entries, mostWork}
 use Rattle.table.specs.Table.{zeroTask}
-use Rattle.table.specs.Sound.{usedb, taskb, zeroTaskb}
-use Rattle.table.proofs.Used.{used-start, used-stop, used-go, used-end}
+use Rattle.table.specs.Sound.{taskb, zeroTaskb}
 use Rattle.table.proofs.tasks_sound.Statement.{statement}
 use Rattle.table.proofs.tasks_sound.Tie as tie
 

@@ -46,7 +46,7 @@ returns c = search needs
 loop-less : tie.Need-loop-less Inv-loop μ-loop
 loop-less c =
     let l = c .before .before .before .before .before .before .before .least in
-    omega (arith, l .ensures .1 .1 (omega arith) (omega arith))
+    omega (arith, l .ensures)
 
 loop-again : tie.Need-loop-again Inv-loop μ-loop
 loop-again c = search needs

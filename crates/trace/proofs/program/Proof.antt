@@ -1,6 +1,7 @@
 -- `trace::program` is safe: it lends no more of the input than there is, and what it calls keeps the lengths.
 use mathlib.Core.Path.{sym, _∙_}
 use lib.Seq.{length-take-le}
+use native.Mathlib.Omega.{arith}
 use borrow.Author.Needs.{needs}
 use Rattle.trace.proofs.program.Statement.{statement}
 use Rattle.trace.proofs.program.Tie as tie
@@ -17,7 +18,7 @@ slice-reshare-prefix-open c = search needs
 slice-aggregate-open : tie.Need-slice-aggregate-open
 slice-aggregate-open c =
     let least = c .before .least in
-    sym (length-take-le (least .result) (c .before .before .before .before .read-setup .last .0) (least .ensures .1 .0))
+    sym (length-take-le (least .result) (c .before .before .before .before .read-setup .last .0) (omega (arith, least .ensures)))
 
 open-requires : tie.Need-open-requires
 open-requires c κs = search needs

@@ -15,7 +15,7 @@ slice-relend-prefix-read-full : tie.Need-slice-relend-prefix-read-full
 slice-relend-prefix-read-full c = search needs
 
 slice-aggregate-read-full : tie.Need-slice-aggregate-read-full
-slice-aggregate-read-full c = sym (length-take-le (c .before .least .result) (c .before .before .before .args .input .now) (c .before .least .ensures .1 .0))
+slice-aggregate-read-full c = sym (length-take-le (c .before .least .result) (c .before .before .before .args .input .now) (omega (arith, c .before .least .ensures)))
 
 read-full-requires : tie.Need-read-full-requires
 read-full-requires c κs = search needs
@@ -70,7 +70,7 @@ add-result c =
     in
     let in-head : first .read-full .result ≤ length (first .read-full .last .1 .0) = first .read-full .ensures .0 in
     let in-rest : second .read-full2 .result ≤ length (second .read-full2 .last .1 .0) = second .read-full2 .ensures .0 in
-    omega (arith, head, rest, in-head, in-rest, second .before .before .before .if1 .left, stated .ensures .1 .0)
+    omega (arith, head, rest, in-head, in-rest, second .before .before .before .if1 .left, stated .ensures)
 
 same-length-3 : tie.Need-same-length-3
 same-length-3 c = search needs

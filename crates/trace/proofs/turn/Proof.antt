@@ -1,6 +1,7 @@
 -- `trace::turn` is safe: it lends no more of the input than there is, and keeps its length.
 use mathlib.Core.Path.{sym}
 use lib.Seq.{length-take-le}
+use native.Mathlib.Omega.{arith}
 use borrow.Author.Needs.{needs}
 use Rattle.trace.proofs.turn.Statement.{statement}
 use Rattle.trace.proofs.turn.Tie as tie
@@ -14,7 +15,7 @@ slice-relend-prefix-read-full c = search needs
 slice-aggregate-read-full : tie.Need-slice-aggregate-read-full
 slice-aggregate-read-full c =
     let least = c .before .least in
-    sym (length-take-le (least .result) (c .before .before .before .before .args .input .now) (least .ensures .1 .0))
+    sym (length-take-le (least .result) (c .before .before .before .before .args .input .now) (omega (arith, least .ensures)))
 
 read-full-requires : tie.Need-read-full-requires
 read-full-requires c κs = search needs
@@ -26,7 +27,7 @@ slice-reshare-prefix-chunk : tie.Need-slice-reshare-prefix-chunk
 slice-reshare-prefix-chunk c = search needs
 
 slice-aggregate-chunk : tie.Need-slice-aggregate-chunk
-slice-aggregate-chunk c = sym (length-take-le (c .before .least2 .result) _ (c .before .least2 .ensures .1 .0))
+slice-aggregate-chunk c = sym (length-take-le (c .before .least2 .result) _ (omega (arith, c .before .least2 .ensures)))
 
 chunk-requires : tie.Need-chunk-requires
 chunk-requires c κs = search needs

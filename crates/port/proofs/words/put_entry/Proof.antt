@@ -5,12 +5,14 @@ use mathlib.Core.List.{[], _∷_}
 use Prim.Native.Nat.{ℕ, _+_, _-_, _*_, _≤_, _<_}
 use native.Mathlib.Omega.{arith}
 use lib.ListN.{length, set, length-set, length-map}
+use Rattle.small.specs.Small.{each}
+use Rattle.small.proofs.Each.{Sizes, sizes-of}
 use Rattle.field.proofs.Fields.{over-sets, over-length}
 use Rattle.table.specs.Limits.{entries}
 use Rattle.scheduler.specs.State.{zeroLoad}
 use Rattle.port.specs.Layout.{loadSize}
-use Rattle.port.specs.Words.{manyWords, queueWords, loadWords, entryWords}
-use Rattle.port.proofs.Many.{behind, Sizes, sizes-of, Wrote, wrote-none, wrote-length, wrote-room, wrote-more, wrote-all}
+use Rattle.port.specs.Words.{queueWords, loadWords, entryWords}
+use Rattle.port.proofs.Many.{behind, Wrote, wrote-none, wrote-length, wrote-room, wrote-more, wrote-all}
 use Rattle.port.proofs.Storing.{queue-length}
 use Rattle.port.proofs.Sizing.{FullEntry, loads-length}
 use Rattle.port.proofs.words.put_entry.Statement.{statement}
@@ -119,7 +121,7 @@ returns c =
     let loads = wrote-all loadWords _ _ _ (l .loop .inv) (omega (arith, full s .loads)) in
     let front = behind (a .at) (a .at + 1) (e .budget .0 ∷ []) _ (a .w .now) _ _ (over-sets (a .at) (e .budget .0 ∷ []) (a .w .now) (omega arith)) loads
     (omega arith) (omega (arith, n)) in
-    behind (a .at) (a .at + 1 + 16) (e .budget .0 ∷ manyWords loadWords (e .loads)) (queueWords (e .arrivals))
+    behind (a .at) (a .at + 1 + 16) (e .budget .0 ∷ each loadWords (e .loads)) (queueWords (e .arrivals))
     (a .w .now) _ _ front (c .before .before .put-queue .ensures)
     (omega (arith, n)) (omega (arith, queue-length (e .arrivals) (full s .cells)))
 

@@ -6,12 +6,13 @@ use Prim.Native.Nat.{ℕ, _+_, _-_, _*_, _≤_, _<_}
 use native.Mathlib.Omega.{arith}
 use lib.ListN.{length, getD, set, length-set, length-map}
 use borrow.Author.Needs.{needs}
+use Rattle.small.proofs.Each.{Sizes, sizes-of, each-length}
 use Rattle.queue.specs.Limits.{cellCount}
 use Rattle.queue.specs.Row.{cell}
 use Rattle.queue.specs.declared.Cell.{Cell}
 use Rattle.field.proofs.Fields.{over-sets}
 use Rattle.port.specs.Words.{cellWord, queueWords}
-use Rattle.port.proofs.Many.{behind, Sizes, sizes-of, many-length, Wrote, wrote-none, wrote-length, wrote-room, wrote-more, wrote-all}
+use Rattle.port.proofs.Many.{behind, Wrote, wrote-none, wrote-length, wrote-room, wrote-more, wrote-all}
 use Rattle.port.proofs.words.put_queue.Statement.{statement}
 use Rattle.port.proofs.words.put_queue.Tie as tie
 
@@ -108,7 +109,7 @@ returns c =
     let count = over-sets (s .args .at) (s .args .t3 .len ∷ []) (s .args .w .now) (omega arith) in
     let cells = wrote-all one _ _ _ (c .before .loop .inv) (omega (arith, full s)) in
     behind (s .args .at) (s .args .at + 1) (s .args .t3 .len ∷ []) _ (s .args .w .now) _ _ count cells (omega arith)
-    (omega (arith, full s, many-length one 1 (s .args .t3 .cells) (all-one s)))
+    (omega (arith, full s, each-length one 1 (s .args .t3 .cells) (all-one s)))
 
 pub put-queue-spec : {M : Type 1} → statement M
 put-queue-spec =

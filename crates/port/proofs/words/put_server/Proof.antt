@@ -6,11 +6,12 @@ use Prim.Native.Nat.{ℕ, _+_, _-_, _*_, _≤_, _<_}
 use native.Mathlib.Omega.{arith}
 use lib.ListN.{length, set, length-set, length-map}
 use borrow.Author.Needs.{needs}
+use Rattle.small.proofs.Each.{Sizes, sizes-of, each-length}
 use Rattle.table.specs.Table.{zeroTask}
 use Rattle.table.specs.Limits.{entries}
 use Rattle.port.specs.Layout.{taskSize}
 use Rattle.port.specs.Words.{taskWords, serverWords}
-use Rattle.port.proofs.Many.{behind, Sizes, sizes-of, many-length, Wrote, wrote-none, wrote-length, wrote-room, wrote-more, wrote-all}
+use Rattle.port.proofs.Many.{behind, Wrote, wrote-none, wrote-length, wrote-room, wrote-more, wrote-all}
 use Rattle.port.proofs.Places.{four-stores}
 use Rattle.port.proofs.words.put_server.Statement.{statement}
 use Rattle.port.proofs.words.put_server.Tie as tie
@@ -136,7 +137,7 @@ returns c =
     let v = a .t3 in
     let words = wrote-all taskWords _ _ _ (c .before .loop .inv) (omega (arith, full s)) in
     behind (a .at) (a .at + 4) (v .kind ∷ v .count ∷ v .period .0 ∷ v .budget .0 ∷ []) _ (a .w .now) _ _ (four-stores _ _ _ _ _ (a .w .now) (omega arith)) words
-    (omega arith) (omega (arith, full s, many-length taskWords taskSize (v .tasks) (sized s)))
+    (omega arith) (omega (arith, full s, each-length taskWords taskSize (v .tasks) (sized s)))
 
 pub put-server-spec : {M : Type 1} → statement M
 put-server-spec =

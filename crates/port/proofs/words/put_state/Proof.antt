@@ -5,16 +5,18 @@ use mathlib.Core.List.{List, _++_, append-assoc}
 use Prim.Native.Nat.{ℕ, _+_, _-_, _*_, _≤_, _<_}
 use native.Mathlib.Omega.{arith}
 use lib.ListN.{length, length-append}
-use Rattle.refusal.proofs.Rows.{all-at}
+use Rattle.small.proofs.All.{all-at}
+use Rattle.small.specs.Small.{each}
+use Rattle.small.proofs.Each.{Sizes, each-length}
 use Rattle.field.specs.Field.{over}
 use Rattle.field.proofs.Fields.{over-length}
 use Rattle.table.specs.Limits.{entries}
 use Rattle.scheduler.specs.declared.State.{State}
 use Rattle.port.specs.Layout.{queueSize, entrySize, tableSize, stateSize}
-use Rattle.port.specs.Words.{manyWords, queueWords, entryWords, tableWords, stateWords}
-use Rattle.port.proofs.Many.{behind, Sizes, many-length, Wrote, wrote-none, wrote-room, wrote-more, wrote-all, over-all}
+use Rattle.port.specs.Words.{queueWords, entryWords, tableWords, stateWords}
+use Rattle.port.proofs.Many.{behind, Wrote, wrote-none, wrote-room, wrote-more, wrote-all, over-all}
 use Rattle.port.proofs.Storing.{queue-length}
-use Rattle.port.proofs.Places.{past}
+use Rattle.scheduler.proofs.Sizes.{pastEntry}
 use Rattle.port.proofs.Sizing.{FullState, state-full, table-length, state-length, entries-sizes}
 use Rattle.port.proofs.Ranges.{EntryRange, StateRange, state-range, table-of, queue-few}
 use Rattle.port.proofs.words.put_state.Statement.{statement}
@@ -109,7 +111,7 @@ put-entry-requires : tie.Need-put-entry-requires Inv-loop μ-loop
 put-entry-requires c κs =
     let t = c .before .before in
     let s = start t .before .before .before .before .before .before in
-    (room t, queue-few _ (all-at EntryRange past (s .args .t2 .entries) (range s .entries) (t .before .loop .i) (below t) .arrivals))
+    (room t, queue-few _ (all-at EntryRange pastEntry (s .args .t2 .entries) (range s .entries) (t .before .loop .i) (below t) .arrivals))
 
 add-i : tie.Need-add-i Inv-loop μ-loop
 add-i c = omega arith
@@ -121,7 +123,7 @@ loop-again : tie.Need-loop-again Inv-loop μ-loop
 loop-again c =
     let t = c .before .before .before in
     wrote-more entryWords _ _ _ entrySize (sized (start t)) (fits (start t)) (t .before .loop .inv) (below t) (here t) (omega arith)
-    past _ (c .put-entry .ensures)
+    pastEntry _ (c .put-entry .ensures)
 
 returns : tie.Need-returns Inv-loop μ-loop
 unfolding stateWords
@@ -130,11 +132,11 @@ returns c =
     let v = state q in
     let ts = tableWords (v .table) in
     let qs = queueWords (v .refills) in
-    let es = manyWords entryWords (v .entries) in
+    let es = each entryWords (v .entries) in
     let words = wrote-all entryWords _ _ _ (c .before .loop .inv) (omega (arith, all-full q .count)) in
     let n : length (ts ++ qs) ≡ tableSize + queueSize =
     simp length-append (omega (arith, table-length (v .table) (all-full q .table), queue-length (v .refills) (all-full q .cells))) in
-    let m : length es ≡ entrySize * entries = rw (many-length entryWords entrySize (v .entries) (sized q), all-full q .count) in
+    let m : length es ≡ entrySize * entries = rw (each-length entryWords entrySize (v .entries) (sized q), all-full q .count) in
     behind 0 (tableSize + queueSize) (ts ++ qs) es (lent q) _ _ (fronted q) words (omega arith) (omega (arith, size q))
     ∙ rw (append-assoc ts qs es) (over-all (stateWords v) (lent q) (state-length v (all-full q) ∙ sym (size q)))
 

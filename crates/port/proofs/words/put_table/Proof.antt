@@ -5,13 +5,14 @@ use mathlib.Core.List.{[], _∷_}
 use Prim.Native.Nat.{ℕ, _+_, _-_, _*_, _≤_, _<_}
 use native.Mathlib.Omega.{arith}
 use lib.ListN.{length, set, length-set}
-use Rattle.refusal.proofs.Rows.{all-at}
+use Rattle.small.proofs.All.{all-at}
+use Rattle.small.proofs.Each.{Sizes, each-length}
 use Rattle.field.proofs.Fields.{over-sets}
 use Rattle.table.specs.Limits.{entries}
-use Rattle.setup.proofs.Writing.{past}
+use Rattle.table.proofs.Sizes.{pastServer}
 use Rattle.port.specs.Layout.{serverSize}
 use Rattle.port.specs.Words.{serverWords, tableWords}
-use Rattle.port.proofs.Many.{behind, Sizes, many-length, Wrote, wrote-none, wrote-length, wrote-room, wrote-more, wrote-all}
+use Rattle.port.proofs.Many.{behind, Wrote, wrote-none, wrote-length, wrote-room, wrote-more, wrote-all}
 use Rattle.port.proofs.Sizing.{FullTable, table-full, servers-sizes}
 use Rattle.port.proofs.Ranges.{ServerRange, TableRange, table-range}
 use Rattle.port.proofs.words.put_table.Statement.{statement}
@@ -80,7 +81,7 @@ element-copy-out-put-server c = omega arith
 put-server-requires : tie.Need-put-server-requires Inv-loop μ-loop
 put-server-requires c κs =
     let t = c .before .before in
-    let few = all-at ServerRange past (start t .args .t3 .servers) (range (start t) .servers) (t .before .loop .i) (below t) .count in
+    let few = all-at ServerRange pastServer (start t .args .t3 .servers) (range (start t) .servers) (t .before .loop .i) (below t) .count in
     (room t, omega (arith, few))
 
 add-i : tie.Need-add-i Inv-loop μ-loop
@@ -92,7 +93,7 @@ loop-less c = omega arith
 loop-again : tie.Need-loop-again Inv-loop μ-loop
 loop-again c =
     let t = c .before .before .before .before .before in
-    wrote-more serverWords _ _ _ serverSize (sized (start t)) (fits (start t)) (t .before .loop .inv) (below t) (here t) (omega arith) past _
+    wrote-more serverWords _ _ _ serverSize (sized (start t)) (fits (start t)) (t .before .loop .inv) (below t) (here t) (omega arith) pastServer _
     (c .before .before .put-server .ensures)
 
 same-length : tie.Need-same-length Inv-loop μ-loop
@@ -106,7 +107,7 @@ returns c =
     let t = a .t3 in
     let words = wrote-all serverWords _ _ _ (c .before .loop .inv) (omega (arith, full s .count)) in
     behind (a .at) (a .at + 1) (t .count ∷ []) _ (a .w .now) _ _ (over-sets (a .at) (t .count ∷ []) (a .w .now) (omega arith)) words
-    (omega arith) (omega (arith, full s .count, many-length serverWords serverSize (t .servers) (sized s)))
+    (omega arith) (omega (arith, full s .count, each-length serverWords serverSize (t .servers) (sized s)))
 
 pub put-table-spec : {M : Type 1} → statement M
 put-table-spec =

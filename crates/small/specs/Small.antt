@@ -1,7 +1,7 @@
 -- The small definitions that all others are written with.
 use mathlib.Core.Bool.{Bool, true, false}
 use mathlib.Core.List.{List, [], _∷_, _++_}
-use Prim.Native.Nat.{ℕ, zero, suc, _-_}
+use Prim.Native.Nat.{ℕ, zero, suc, _+_, _-_}
 use lib.ListN.{length, replicate}
 
 -- the first where the test holds, else the second
@@ -22,3 +22,19 @@ abbrev pub alter {ℓ} : {A : Type ℓ} → (A → A) → List A → ℕ → Lis
 alter f [] i = []
 alter f (x ∷ xs) zero = f x ∷ xs
 alter f (x ∷ xs) (suc i) = x ∷ alter f xs i
+
+-- the first n entries pass the first test, the others the second
+abbrev pub usedb : {A : Type 0} → (A → Bool) → (A → Bool) → List A → ℕ → Bool
+usedb good none [] n = true
+usedb good none (x ∷ xs) zero = both (none x) (usedb good none xs zero)
+usedb good none (x ∷ xs) (suc n) = both (good x) (usedb good none xs n)
+
+-- what each gives, one behind the other: bytes of a file, words of memory
+abbrev pub each : {A : Type 0} → (A → List ℕ) → List A → List ℕ
+each f [] = []
+each f (x ∷ xs) = f x ++ each f xs
+
+-- f 0 + f 1 + .. + f (n - 1)
+unfoldable pub sumBelow : (ℕ → ℕ) → ℕ → ℕ
+sumBelow f zero = 0
+sumBelow f (suc n) = sumBelow f n + f n

@@ -1,12 +1,9 @@
--- Laws of the small definitions. Assumes nothing.
+-- Laws of tests: two that hold, one of two, neither, and one that both holds and does not. Assumes nothing.
 use mathlib.Core.Path.{_≡_, refl, sym}
 use mathlib.Core.Bool.{Bool, true, false}
-use mathlib.Core.List.{List, [], _∷_, _++_, append-assoc}
-use Prim.Native.Nat.{ℕ, suc, _-_, _<_}
+use Prim.Native.Nat.{ℕ}
 use native.Mathlib.Omega.{arith}
-use lib.ListN.{length, take, set, replicate, length-append}
-use lib.Seq.{set-append-seam, take-append-seam}
-use Rattle.refusal.specs.Small.{pick, both, padded}
+use Rattle.small.specs.Small.{pick, both}
 
 pub both-left : (a b : Bool) → both a b ≡ true → a ≡ true
 both-left true b e = refl
@@ -49,14 +46,3 @@ neither-right false b e = e
 -- a test that is both true and false
 pub contrary {ℓ} : {A : Type ℓ} {b : Bool} → b ≡ true → b ≡ false → A
 contrary p q = let z : _≡_ {A = ℕ} 0 1 = cc in absurd (omega arith)
-
-module _ {ℓ} {A : Type ℓ} (z : A) (n : ℕ) (xs : List A) where
-  -- one element more, stored behind the last
-  pub padded-push : (x : A) → length xs < n → set (padded z n xs) (length xs) x ≡ padded z n (xs ++ (x ∷ []))
-  padded-push x h =
-      let e : n - length xs ≡ suc (n - suc (length xs)) = omega arith in
-      let f : n - length (xs ++ (x ∷ [])) ≡ n - suc (length xs) = simp length-append (omega arith) in
-      rw (e, f, append-assoc) (set-append-seam xs z (replicate (n - suc (length xs)) z) x)
-
-  pub take-padded : take (length xs) (padded z n xs) ≡ xs
-  take-padded = take-append-seam xs _

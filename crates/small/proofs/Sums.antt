@@ -1,14 +1,10 @@
--- Sums over the numbers below n: what the counts over ticks need of them. Assumes nothing.
+-- Sums over the numbers below n. Assumes nothing.
 use mathlib.Core.Path.{_≡_, refl, sym}
-use Prim.Native.Nat.{ℕ, zero, suc, _+_, _-_, _*_, _≤_, _<_}
-use native.Mathlib.Nat.{add-zero, add-suc, add-assoc, mod-lt, div-add-mod'}
+use Prim.Native.Nat.{ℕ, zero, suc, _+_, _-_, _≤_, _<_}
+use native.Mathlib.Nat.{add-zero, add-suc, add-assoc}
 use native.Mathlib.Decide.{decLt}
 use native.Mathlib.Omega.{arith}
-use Rattle.assurance.specs.Demand3.{sumBelow, ceil}
-
-pub ceil-covers : (a b : ℕ) → 0 < b → a ≤ ceil a b * b
-unfolding ceil
-ceil-covers a b h = omega (arith, div-add-mod' (a + (b - 1)) b, mod-lt (a + (b - 1)) h)
+use Rattle.small.specs.Small.{sumBelow}
 
 pub sum-mono : (f g : ℕ → ℕ) (n : ℕ) → ((i : ℕ) → i < n → f i ≤ g i) → sumBelow f n ≤ sumBelow g n
 unfolding sumBelow

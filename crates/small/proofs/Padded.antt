@@ -1,27 +1,11 @@
--- A row of entries in use, filled up: laws of `padded`, and of what holds of every entry in use. Assumes nothing.
+-- A list of entries in use, filled up. Over any elements. Assumes nothing.
 use mathlib.Core.Path.{_≡_, sym, _∙_}
-use mathlib.Core.List.{List, [], _∷_}
-use Prim.Native.Nat.{ℕ, zero, suc, _+_, _-_, _≤_, _<_}
+use mathlib.Core.List.{List, [], _∷_, _++_, append-assoc}
+use Prim.Native.Nat.{ℕ, suc, _+_, _-_, _≤_, _<_}
 use native.Mathlib.Omega.{arith}
-use lib.ListN.{length, take, drop, getD, replicate, length-append, length-drop, length-replicate, getD-replicate, take-append-drop, List·getD-append}
-use lib.Seq.{length-take-le, getD-drop, getD-append-add, ext-getD}
-use Rattle.refusal.specs.Small.{padded}
-
--- it holds of each
-abbrev pub All : {A : Type 0} → (A → Type 0) → List A → Type 0
-All P [] = Unit
-All P (x ∷ xs) = P x × All P xs
-
-module _ {A : Type 0} (P : A → Type 0) (z : A) where
-  pub all-take : (xs : List A) (n : ℕ) → n ≤ length xs → ((i : ℕ) → i < n → P (getD xs i z)) → All P (take n xs)
-  all-take xs zero l h = tt
-  all-take [] (suc n) l h = absurd (omega arith)
-  all-take (x ∷ xs) (suc n) l h = (h 0 (omega arith), all-take xs n (omega arith) λ i m. h (suc i) (omega arith))
-
-  pub all-at : (xs : List A) → All P xs → (i : ℕ) → i < length xs → P (getD xs i z)
-  all-at [] a i h = absurd (omega arith)
-  all-at (x ∷ xs) a zero h = a .0
-  all-at (x ∷ xs) a (suc i) h = all-at xs (a .1) i (omega arith)
+use lib.ListN.{length, take, drop, getD, set, replicate, length-append, length-drop, length-replicate, getD-replicate, take-append-drop, List·getD-append}
+use lib.Seq.{length-take-le, getD-drop, getD-append-add, ext-getD, set-append-seam, take-append-seam}
+use Rattle.small.specs.Small.{padded}
 
 module _ {A : Type 0} (z : A) (n : ℕ) (xs : List A) where
   -- a row whose other entries are z is its entries in use, filled up
@@ -44,3 +28,14 @@ module _ {A : Type 0} (z : A) (n : ℕ) (xs : List A) where
     padded-unused i h m =
         let e : i ≡ length xs + (i - length xs) = omega arith in
         rw e (getD-append-add xs (replicate (n - length xs) z) (i - length xs) z ∙ getD-replicate (n - length xs) (i - length xs) z z (omega arith))
+
+module _ {ℓ} {A : Type ℓ} (z : A) (n : ℕ) (xs : List A) where
+  -- one element more, stored behind the last
+  pub padded-push : (x : A) → length xs < n → set (padded z n xs) (length xs) x ≡ padded z n (xs ++ (x ∷ []))
+  padded-push x h =
+      let e : n - length xs ≡ suc (n - suc (length xs)) = omega arith in
+      let f : n - length (xs ++ (x ∷ [])) ≡ n - suc (length xs) = simp length-append (omega arith) in
+      rw (e, f, append-assoc) (set-append-seam xs z (replicate (n - suc (length xs)) z) x)
+
+  pub take-padded : take (length xs) (padded z n xs) ≡ xs
+  take-padded = take-append-seam xs _

@@ -1,4 +1,5 @@
--- A list whose first n entries pass one test and whose others pass another, walked by the index. Over any elements and any two tests. Assumes nothing.
+-- A list whose first n entries pass one test and whose others pass another (`usedb`): walked by the index, what it says of each entry, and what one entry changed
+-- keeps of it. Over any elements and any two tests. Assumes nothing.
 use mathlib.Core.Path.{_≡_, refl, sym, ap, _∙_}
 use mathlib.Core.Bool.{Bool, true, false}
 use mathlib.Core.List.{List, [], _∷_}
@@ -9,9 +10,9 @@ use lib.Dec.{ltb}
 use lib.ListN.{length, getD, drop, drop-of-length-le}
 use lib.Seq.{drop-cons}
 use borrow.Author.Tests.{ltb-true, ltb-false}
-use Rattle.refusal.specs.Small.{pick, both}
-use Rattle.refusal.proofs.Small.{both-left, both-right}
-use Rattle.table.specs.Sound.{usedb}
+use Rattle.small.specs.Small.{pick, both, alter, usedb}
+use Rattle.small.proofs.Tests.{both-left, both-right}
+use Rattle.small.proofs.All.{All}
 
 -- with no entry in use the first test is not asked
 pub used-none : {A : Type 0} (good other none : A → Bool) (xs : List A) → usedb good none xs 0 ≡ usedb other none xs 0
@@ -87,3 +88,41 @@ module _ {A : Type 0} (good none : A → Bool) (d : A) where
       rw
       (r .used 0 (omega arith))
       (each-to xs n record { used = λ i h. r .used (suc i) (omega arith); unused = λ i m h. r .unused (suc i) (omega arith) (omega arith) })
+
+-- an entry of a list that is not of the others' kind is in use and good
+pub in-use : {A : Type 0} (good none : A → Bool) (d : A) → none d ≡ true → (xs : List A) (n id : ℕ) → usedb good none xs n ≡ true
+    → (none (getD xs id d) ≡ true → ⊥) → (id < n) × (good (getD xs id d) ≡ true)
+in-use good none d z [] n id u h = absurd (h z)
+in-use good none d z (x ∷ xs) zero zero u h = absurd (h (both-left _ _ u))
+in-use good none d z (x ∷ xs) zero (suc id) u h = absurd (omega (arith, in-use good none d z xs zero id (both-right (none x) _ u) h .0))
+in-use good none d z (x ∷ xs) (suc n) zero u h = (omega arith, both-left _ _ u)
+in-use good none d z (x ∷ xs) (suc n) (suc id) u h =
+    let r = in-use good none d z xs n id (both-right (good x) _ u) h in
+    (omega (arith, r .0), r .1)
+
+-- what holds of every entry that is good, and of every one that is zero, holds of all
+pub used-all : {A : Type 0} (P : A → Type 0) (good none : A → Bool) → ((x : A) → good x ≡ true → P x) → ((x : A) → none x ≡ true → P x)
+    → (xs : List A) (n : ℕ) → usedb good none xs n ≡ true → All P xs
+used-all P good none g z [] n h = tt
+used-all P good none g z (x ∷ xs) zero h = (z x (both-left _ _ h), used-all P good none g z xs zero (both-right (none x) _ h))
+used-all P good none g z (x ∷ xs) (suc n) h = (g x (both-left _ _ h), used-all P good none g z xs n (both-right (good x) _ h))
+
+-- ONE ENTRY CHANGED
+
+module _ {A : Type 0} (f : A → A) where
+  -- the first n entries good and the others none: so they stay
+  module _ (good none : A → Bool) (keeps : (x : A) → good x ≡ true → good (f x) ≡ true) where
+    -- whichever is changed, where the change keeps both tests
+    pub used-any : ((x : A) → none x ≡ true → none (f x) ≡ true) → (xs : List A) (n i : ℕ) → usedb good none xs n ≡ true → usedb good none (alter f xs i) n ≡ true
+    used-any z [] n i h = refl
+    used-any z (x ∷ xs) zero zero h = rw (z x (both-left _ _ h)) (both-right (none x) _ h)
+    used-any z (x ∷ xs) zero (suc i) h = rw (both-left (none x) _ h) (used-any z xs zero i (both-right (none x) _ h))
+    used-any z (x ∷ xs) (suc n) zero h = rw (keeps x (both-left _ _ h)) (both-right (good x) _ h)
+    used-any z (x ∷ xs) (suc n) (suc i) h = rw (both-left (good x) _ h) (used-any z xs n i (both-right (good x) _ h))
+
+    -- where one in use is changed
+    pub used-one : (xs : List A) (n i : ℕ) → i < n → usedb good none xs n ≡ true → usedb good none (alter f xs i) n ≡ true
+    used-one [] n i l h = refl
+    used-one (x ∷ xs) zero i l h = absurd (omega arith)
+    used-one (x ∷ xs) (suc n) zero l h = rw (keeps x (both-left _ _ h)) (both-right (good x) _ h)
+    used-one (x ∷ xs) (suc n) (suc i) l h = rw (both-left (good x) _ h) (used-one xs n i (omega arith) (both-right (good x) _ h))

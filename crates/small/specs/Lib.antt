@@ -1,0 +1,2 @@
+-- BELIEVED: what definitions and contracts are written with
+pub mod Small

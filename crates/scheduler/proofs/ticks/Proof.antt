@@ -50,44 +50,182 @@ Inv-loop n answers₀ polled table entries₀ refills₀ k₀ answers entries re
 abbrev μ-loop : tie.MeasureT-loop
 μ-loop n answers₀ polled table entries₀ refills₀ k₀ answers entries refills k = n - k
 
+-- THE PLACES OF THE CODE, in its order. Each step back from a place to one before it is named here, once; below, `.before` goes only from a branch or a test to
+-- what it tests, and from a loop to the last place before it. So what is put into the code between two places is one `.before` more in one of these lines. A step
+-- "from the last place", and a need that is asked right behind what is put in, then start from there; where nothing stands between yet, a step stays (`choice c = c`).
+
+-- a place, with what the loops keep
+abbrev Place :
+    (tie.InvT-loop2 →
+    tie.MeasureT-loop2 →
+    tie.InvT-loop3 →
+    tie.MeasureT-loop3 →
+    tie.InvT-loop4 →
+    tie.MeasureT-loop4 →
+    tie.InvT-loop →
+    tie.MeasureT-loop →
+    Type 0) →
+    Type 0
+Place p = p Inv-loop2 μ-loop2 Inv-loop3 μ-loop3 Inv-loop4 μ-loop4 Inv-loop μ-loop
+
+-- BEFORE THE LOOP. The answer of `polled_entries`, from the last place before the outer loop
+abbrev polling : Place tie.After-refills → Place tie.After-polled-entries
+polling c = c .before .before .before
+
+-- the call's parameters, from the last place before the outer loop
+abbrev start : Place tie.After-refills → Place tie.Start
+start c = polling c .before
+
+-- CHOICE AND CHARGE. A turn of the outer loop, from the choice
+abbrev begun : Place tie.After-chosen → Place tie.In-loop
+begun c = c .before
+
+-- the outer loop, from the choice
+abbrev turn : Place tie.After-chosen → Place tie.At-loop
+turn c = begun c .before
+
+-- the choice, from the last place before the branch on it
+abbrev choice : Place tie.After-chosen → Place tie.After-chosen
+choice c = c
+
+-- the choice, from the task that `first_pending` finds in that branch
+abbrev picked : Place tie.After-first-pending → Place tie.After-chosen
+picked c = choice (c .before .before .before)
+
+-- that task, from what `charged` is handed
+abbrev task : Place tie.After-charged-arg → Place tie.After-first-pending
+task c = c .before
+
+-- the choice, from where that branch meets again
+abbrev chosen : Place tie.Joined1 → Place tie.After-chosen
+chosen c = choice (c .before)
+
+-- REPLENISHMENTS. Where the branch on the choice meets again, from the test of the replenishments' first gap
+abbrev charge : Place tie.After-falls → Place tie.Joined1
+charge c = c .before
+
+-- where the branch on that test meets again, from the last place before loop 2
+abbrev clock : Place tie.Joined2 → Place tie.Joined2
+clock c = c
+
+-- where the branch on the choice meets again, from loop 2
+abbrev charged : Place tie.At-loop2 → Place tie.Joined1
+charged l = charge (clock (l .before) .before)
+
+-- the outer loop, from loop 2
+abbrev outer : Place tie.At-loop2 → Place tie.At-loop
+outer l = turn (chosen (charged l))
+
+-- loop 2, from its test
+abbrev refills : Place tie.After-due → Place tie.At-loop2
+refills c = c .before
+
+-- the branch where a replenishment is due, from its id
+abbrev due : Place tie.After-first-id → Place tie.Then3
+due c = c .before
+
+-- its id, from its server
+abbrev id : Place tie.After-v → Place tie.After-first-id
+id c = c .before
+
+-- its server, from the entry with its budget
+abbrev server : Place tie.After-filled → Place tie.After-v
+server c = c .before .before
+
+-- the entry with its budget, from where the replenishment is put in again
+abbrev filled : Place tie.After-again → Place tie.After-filled
+filled c = c .before
+
+-- where it is put in again, from the last place of the turn
+abbrev renewed : Place tie.After-again → Place tie.After-again
+renewed c = c
+
+-- ARRIVALS. The branch where no replenishment is due any more, from the last place before loop 3
+abbrev refilled : Place tie.Else3 → Place tie.Else3
+refilled c = c
+
+-- loop 2, from loop 3
+abbrev handling : Place tie.At-loop3 → Place tie.At-loop2
+handling l = refills (refilled (l .before) .before)
+
+-- loop 3, from the test of an entry's first gap
+abbrev arrivals : Place tie.After-falls2 → Place tie.At-loop3
+arrivals c = c .before .before .before
+
+-- the branch where that gap falls, from the last place of the turn
+abbrev falling : Place tie.After-nearer2 → Place tie.Then4
+falling c = c .before .before
+
+-- the test of that gap, from the test of an empty queue
+abbrev standing : Place tie.After-still → Place tie.After-falls2
+standing c = c .before .before .before
+
+-- the test of that gap, from what `served` is handed
+abbrev waiting : Place tie.After-served-arg2 → Place tie.After-falls2
+waiting c = standing (c .before .before .before)
+
+-- what `served` is handed, from its answer
+abbrev handed : Place tie.After-served → Place tie.After-served-arg2
+handed c = c .before
+
+-- its answer, from the last place of the turn
+abbrev served : Place tie.After-struct-known → Place tie.After-served
+served c = c .before .before
+
+-- THE ANSWER. The end of loop 3, from the choice in the answer
+abbrev handled : Place tie.After-choice-of → Place tie.After-loop3
+handled c = c .before
+
+-- the choice in the answer, from the last place before loop 4
+abbrev answered : Place tie.After-choice-of → Place tie.After-choice-of
+answered c = c
+
+-- loop 3, from loop 4
+abbrev serving : Place tie.At-loop4 → Place tie.At-loop3
+serving l = handled (answered (l .before)) .before
+
+-- POLLING SERVERS. A turn of loop 4, from its server
+abbrev looking : Place tie.After-v2 → Place tie.In-loop4
+looking c = c .before
+
+-- a turn of loop 4, from the test whether the server gives its budget up
+abbrev lapses : Place tie.After-gives-up → Place tie.In-loop4
+lapses c = looking (c .before .before)
+
+-- the branch where it does, from the entry without it
+abbrev lapsing : Place tie.After-given-up → Place tie.Else6
+lapsing c = c .before .before
+
+-- BEHIND THE LOOP. Its end, from the refusal in the result
+abbrev ended : Place tie.After-none → Place tie.After-loop
+ended c = c .before
+
 -- the state of the call, and the one that a tick begins with
 
-abbrev called : tie.At-loop Inv-loop2 μ-loop2 Inv-loop3 μ-loop3 Inv-loop4 μ-loop4 Inv-loop μ-loop → State
-called l = l .before .before .before .before .before .args .s
+abbrev called : Place tie.At-loop → State
+called l = start (l .before) .args .s
 
-abbrev now : tie.At-loop Inv-loop2 μ-loop2 Inv-loop3 μ-loop3 Inv-loop4 μ-loop4 Inv-loop μ-loop → State
+abbrev now : Place tie.At-loop → State
 now l = stateWith (called l .table) (l .loop .entries) (l .loop .refills)
 
-ticking : (l : tie.At-loop Inv-loop2 μ-loop2 Inv-loop3 μ-loop3 Inv-loop4 μ-loop4 Inv-loop μ-loop) → Ticking (now l)
+ticking : (l : Place tie.At-loop) → Ticking (now l)
 ticking l = l .loop .inv .1
 
-few : (l : tie.At-loop Inv-loop2 μ-loop2 Inv-loop3 μ-loop3 Inv-loop4 μ-loop4 Inv-loop μ-loop) → l .before .before .before .before .before .args .n ≤ batchSize
-few l = l .before .before .before .before .before .pre .1
-
--- the turn of the outer loop in which the replenishments are handled
-abbrev outer : tie.At-loop2 Inv-loop2 μ-loop2 Inv-loop3 μ-loop3 Inv-loop4 μ-loop4 Inv-loop μ-loop → tie.At-loop Inv-loop2 μ-loop2 Inv-loop3 μ-loop3 Inv-loop4 μ-loop4 Inv-loop μ-loop
-outer l = l .before .before .before .before .before .before
-
--- the places of the loops that it has behind it, from the last one on
-
-abbrev handling : tie.At-loop3 Inv-loop2 μ-loop2 Inv-loop3 μ-loop3 Inv-loop4 μ-loop4 Inv-loop μ-loop → tie.At-loop2 Inv-loop2 μ-loop2 Inv-loop3 μ-loop3 Inv-loop4 μ-loop4 Inv-loop μ-loop
-handling l = l .before .before .before
-
-abbrev serving : tie.At-loop4 Inv-loop2 μ-loop2 Inv-loop3 μ-loop3 Inv-loop4 μ-loop4 Inv-loop μ-loop → tie.At-loop3 Inv-loop2 μ-loop2 Inv-loop3 μ-loop3 Inv-loop4 μ-loop4 Inv-loop μ-loop
-serving l = l .before .before .before
+few : (l : Place tie.At-loop) → start (l .before) .args .n ≤ batchSize
+few l = start (l .before) .pre .1
 
 -- THE TICK, by the places of the code
 
-chosen-is : (c : tie.After-chosen Inv-loop2 μ-loop2 Inv-loop3 μ-loop3 Inv-loop4 μ-loop4 Inv-loop μ-loop) → c .chosen .result ≡ chosenOf (now (c .before .before))
+chosen-is : (c : Place tie.After-chosen) → c .chosen .result ≡ chosenOf (now (turn c))
 unfolding chosenOf
 chosen-is c = c .chosen .ensures
 
 -- where the branch on the choice meets again
-charged-is : (c : tie.Joined1 Inv-loop2 μ-loop2 Inv-loop3 μ-loop3 Inv-loop4 μ-loop4 Inv-loop μ-loop)
-    → Charged (now (c .before .before .before)) (c .before .chosen .result) (c .if1 .j) (c .if1 .entries)
+charged-is : (c : Place tie.Joined1)
+    → Charged (now (turn (chosen c))) (chosen c .chosen .result) (c .if1 .j) (c .if1 .entries)
 charged-is c =
-    let l = c .before .before .before in
-    let a = c .before in
+    let a = chosen c in
+    let l = turn a in
     ⊎-elim
     (λ w.
     let y = w .5 ∙ ap (set (l .loop .entries) (a .chosen .result)) (w .4 .ensures) in
@@ -96,32 +234,36 @@ charged-is c =
     (c .if1 .came)
 
 -- where the branch on the replenishments' first gap meets again
-clocked-is : (c : tie.Joined2 Inv-loop2 μ-loop2 Inv-loop3 μ-loop3 Inv-loop4 μ-loop4 Inv-loop μ-loop)
-    → c .if2 .refills ≡ tickStep (now (c .before .before .before .before .before) .refills)
+clocked-is : (c : Place tie.Joined2)
+    → c .if2 .refills ≡ tickStep (now (turn (chosen (charge (c .before)))) .refills)
 clocked-is c =
-    let l = c .before .before .before .before .before in
+    let l = turn (chosen (charge (c .before))) in
     ⊎-elim
     (λ w. w .2 ∙ w .1 .ensures ∙ refills-fall (now l) (ticking l) (sym (c .before .falls .ensures) ∙ w .0 .taken))
     (λ w. w .2 ∙ w .1 .ensures)
     (c .if2 .came)
 
-some-due : (c : tie.Then3 Inv-loop2 μ-loop2 Inv-loop3 μ-loop3 Inv-loop4 μ-loop4 Inv-loop μ-loop) → dueStep (c .before .before .loop2 .refills) ≡ true
+some-due : (c : Place tie.Then3) → dueStep (refills (c .before) .loop2 .refills) ≡ true
 some-due c = sym (c .before .due .ensures) ∙ c .if3 .taken
 
-small : (c : tie.After-first-id Inv-loop2 μ-loop2 Inv-loop3 μ-loop3 Inv-loop4 μ-loop4 Inv-loop μ-loop) → c .first-id .result < entries
-small c = refill-small (c .before .before .before .loop2 .inv) (some-due (c .before)) (c .first-id .ensures)
+small : (c : Place tie.After-first-id) → c .first-id .result < entries
+small c = refill-small (refills (due c .before) .loop2 .inv) (some-due (due c)) (c .first-id .ensures)
 
 -- where no replenishment is due any more
-refilled-is : (c : tie.Else3 Inv-loop2 μ-loop2 Inv-loop3 μ-loop3 Inv-loop4 μ-loop4 Inv-loop μ-loop)
-    → let l = c .before .before in Refilled (now (outer l)) (l .loop2 .entries) (l .loop2 .refills) (l .loop2 .handled)
+refilled-is : (c : Place tie.Else3)
+    → let l = refills (c .before) in Refilled (now (outer l)) (l .loop2 .entries) (l .loop2 .refills) (l .loop2 .handled)
 refilled-is c =
-    let l = c .before .before in
+    let l = refills (c .before) in
     let d = sym (c .before .due .ensures) ∙ c .if3 .left in
-    refills-done (now (outer l)) (ticking (outer l) .sound) (charged-is (l .before .before .before) .charged) (clocked-is (l .before)) (l .loop2 .inv) d
+    refills-done (now (outer l)) (ticking (outer l) .sound) (charged-is (charged l) .charged) (clocked-is (clock (l .before))) (l .loop2 .inv) d
 
--- an entry that is looked at
-inside : (c : tie.In-loop4 Inv-loop2 μ-loop2 Inv-loop3 μ-loop3 Inv-loop4 μ-loop4 Inv-loop μ-loop) → c .before .loop4 .p < entries
-inside c = omega (arith, c .loop4-test .taken, outer (handling (serving (c .before))) .before .before .before .before .polled-entries .ensures .0)
+-- an entry whose queue is looked at
+within : (c : Place tie.After-falls2) → arrivals c .loop3 .i < entries
+within c = omega arith
+
+-- an entry that is looked at for its budget
+inside : (c : Place tie.In-loop4) → c .before .loop4 .p < entries
+inside c = omega (arith, c .loop4-test .taken, polling (outer (handling (serving (c .before))) .before) .polled-entries .ensures .0)
 
 -- THE NEEDS
 
@@ -130,7 +272,7 @@ polled-entries-requires c κs = state-parts (c .args .s) .0 (c .pre .0) .table
 
 loop-holds : tie.Need-loop-holds Inv-loop2 μ-loop2 Inv-loop3 μ-loop3 Inv-loop4 μ-loop4 Inv-loop μ-loop
 loop-holds c =
-    let a = c .before .before .before .before in
+    let a = start c in
     let s = a .args .s in
     let z = state-eight s _ (a .good .0) in
     let t : Ticking s = record { sound = a .pre .0; eight = z; loads = λ i h. state-loads s _ (a .good .0) i zeroEntry (omega (arith, z .entries)) } in
@@ -159,9 +301,9 @@ array-copy-out-charged c = omega arith
 
 charged-requires : tie.Need-charged-requires Inv-loop2 μ-loop2 Inv-loop3 μ-loop3 Inv-loop4 μ-loop4 Inv-loop μ-loop
 charged-requires c κs =
-    let a = c .before .before .before .before in
-    let l = a .before .before in
-    (chosen-budget (now l) (ticking l) (chosen-is a) (omega arith), c .before .first-pending .ensures)
+    let a = picked (task c) in
+    let l = turn a in
+    (chosen-budget (now l) (ticking l) (chosen-is a) (omega arith), task c .first-pending .ensures)
 
 mul-entries : tie.Need-mul-entries Inv-loop2 μ-loop2 Inv-loop3 μ-loop3 Inv-loop4 μ-loop4 Inv-loop μ-loop
 mul-entries c = omega arith
@@ -181,9 +323,11 @@ ticked-requires c κs = search needs
 
 loop2-holds : tie.Need-loop2-holds Inv-loop2 μ-loop2 Inv-loop3 μ-loop3 Inv-loop4 μ-loop4 Inv-loop μ-loop
 loop2-holds c =
-    let l = c .before .before .before .before .before in
-    let n = charged-full (now l) (ticking l) (charged-is (c .before .before)) in
-    refill-start _ _ _ (ticking l .eight .servers) n (rw (clocked-is c) (refills-turning (now l) (ticking l .sound)))
+    let m = clock c in
+    let j = charge (m .before) in
+    let l = turn (chosen j) in
+    let n = charged-full (now l) (ticking l) (charged-is j) in
+    refill-start _ _ _ (ticking l .eight .servers) n (rw (clocked-is m) (refills-turning (now l) (ticking l .sound)))
 
 due-requires : tie.Need-due-requires Inv-loop2 μ-loop2 Inv-loop3 μ-loop3 Inv-loop4 μ-loop4 Inv-loop μ-loop
 due-requires c κs = search needs
@@ -206,7 +350,7 @@ mul-filled c = omega arith
 
 array-copy-out-filled :
     tie.Need-array-copy-out-filled Inv-loop2 μ-loop2 Inv-loop3 μ-loop3 Inv-loop4 μ-loop4 Inv-loop μ-loop
-array-copy-out-filled c = small (c .before)
+array-copy-out-filled c = small (id c)
 
 filled-requires : tie.Need-filled-requires Inv-loop2 μ-loop2 Inv-loop3 μ-loop3 Inv-loop4 μ-loop4 Inv-loop μ-loop
 filled-requires c κs = search needs
@@ -216,7 +360,7 @@ mul-entries-2 c = omega arith
 
 array-set-from-entries-2 :
     tie.Need-array-set-from-entries-2 Inv-loop2 μ-loop2 Inv-loop3 μ-loop3 Inv-loop4 μ-loop4 Inv-loop μ-loop
-array-set-from-entries-2 c = small (c .before .before .before)
+array-set-from-entries-2 c = small (id (server c))
 
 again-requires : tie.Need-again-requires Inv-loop2 μ-loop2 Inv-loop3 μ-loop3 Inv-loop4 μ-loop4 Inv-loop μ-loop
 again-requires c κs = search needs
@@ -226,21 +370,24 @@ add-handled c = omega arith
 
 loop2-less : tie.Need-loop2-less Inv-loop2 μ-loop2 Inv-loop3 μ-loop3 Inv-loop4 μ-loop4 Inv-loop μ-loop
 loop2-less c =
-    let f = c .before .before .before .before in
-    let l = f .before .before .before in
-    omega (arith, refill-less (l .loop2 .inv) (some-due (f .before)) (f .first-id .ensures) (c .again .ensures))
+    let r = renewed c in
+    let f = id (server (filled r)) in
+    let l = refills (due f .before) in
+    omega (arith, refill-less (l .loop2 .inv) (some-due (due f)) (f .first-id .ensures) (r .again .ensures))
 
 loop2-again : tie.Need-loop2-again Inv-loop2 μ-loop2 Inv-loop3 μ-loop3 Inv-loop4 μ-loop4 Inv-loop μ-loop
 loop2-again c =
-    let f = c .before .before .before .before in
-    let l = f .before .before .before in
-    let y = ap (set (l .loop2 .entries) (f .first-id .result)) (c .before .filled .ensures) in
-    refill-more (l .loop2 .inv) (some-due (f .before)) (f .first-id .ensures) (c .again .ensures) y
+    let r = renewed c in
+    let f = id (server (filled r)) in
+    let l = refills (due f .before) in
+    let y = ap (set (l .loop2 .entries) (f .first-id .result)) (filled r .filled .ensures) in
+    refill-more (l .loop2 .inv) (some-due (due f)) (f .first-id .ensures) (r .again .ensures) y
 
 loop3-holds : tie.Need-loop3-holds Inv-loop2 μ-loop2 Inv-loop3 μ-loop3 Inv-loop4 μ-loop4 Inv-loop μ-loop
 loop3-holds c =
-    let l = c .before .before in
-    serve-start (refilled-fitting (now (outer l)) (ticking (outer l)) (refilled-is c)) (omega (arith, l .loop2 .inv .handled, l .loop2 .inv .few))
+    let d = refilled c in
+    let l = refills (d .before) in
+    serve-start (refilled-fitting (now (outer l)) (ticking (outer l)) (refilled-is d)) (omega (arith, l .loop2 .inv .handled, l .loop2 .inv .few))
 
 mul-falls : tie.Need-mul-falls Inv-loop2 μ-loop2 Inv-loop3 μ-loop3 Inv-loop4 μ-loop4 Inv-loop μ-loop
 mul-falls c = omega arith
@@ -277,8 +424,9 @@ loop3-less c = omega arith
 
 loop3-again : tie.Need-loop3-again Inv-loop2 μ-loop2 Inv-loop3 μ-loop3 Inv-loop4 μ-loop4 Inv-loop μ-loop
 loop3-again c =
-    let l = c .before .before .before .before .before .before in
-    serve-falls (l .loop3 .inv) (omega arith) (sym (c .before .before .before .falls2 .ensures) ∙ c .before .before .if4 .taken) (c .nearer2 .ensures)
+    let t = falling c in
+    let g = t .before in
+    serve-falls (arrivals g .loop3 .inv) (within g) (sym (g .falls2 .ensures) ∙ t .if4 .taken) (c .nearer2 .ensures)
 
 mul-still : tie.Need-mul-still Inv-loop2 μ-loop2 Inv-loop3 μ-loop3 Inv-loop4 μ-loop4 Inv-loop μ-loop
 mul-still c = omega arith
@@ -298,8 +446,8 @@ loop3-less-2 c = omega arith
 
 loop3-again-2 : tie.Need-loop3-again-2 Inv-loop2 μ-loop2 Inv-loop3 μ-loop3 Inv-loop4 μ-loop4 Inv-loop μ-loop
 loop3-again-2 c =
-    let l = c .before .before .before .before .before .before .before in
-    serve-still (l .loop3 .inv) (omega arith) (sym (c .before .still .ensures) ∙ c .if5 .taken)
+    let g = standing (c .before) in
+    serve-still (arrivals g .loop3 .inv) (within g) (sym (c .before .still .ensures) ∙ c .if5 .taken)
 
 mul-served : tie.Need-mul-served Inv-loop2 μ-loop2 Inv-loop3 μ-loop3 Inv-loop4 μ-loop4 Inv-loop μ-loop
 mul-served c = omega arith
@@ -317,9 +465,9 @@ array-copy-out-served c = omega arith
 
 served-requires : tie.Need-served-requires Inv-loop2 μ-loop2 Inv-loop3 μ-loop3 Inv-loop4 μ-loop4 Inv-loop μ-loop
 served-requires c κs =
-    let l = c .before .before .before .before .before .before .before .before .before in
-    let h : l .loop3 .i < entries = omega arith in
-    (serve-tabled (l .loop3 .inv) h, serve-sound (l .loop3 .inv) h)
+    let g = waiting c in
+    let l = arrivals g in
+    (serve-tabled (l .loop3 .inv) (within g), serve-sound (l .loop3 .inv) (within g))
 
 mul-entries-4 : tie.Need-mul-entries-4 Inv-loop2 μ-loop2 Inv-loop3 μ-loop3 Inv-loop4 μ-loop4 Inv-loop μ-loop
 mul-entries-4 c = omega arith
@@ -330,9 +478,11 @@ array-set-from-entries-4 c = omega arith
 
 add-handled-2 : tie.Need-add-handled-2 Inv-loop2 μ-loop2 Inv-loop3 μ-loop3 Inv-loop4 μ-loop4 Inv-loop μ-loop
 add-handled-2 c =
-    let l = c .before .before .before .before .before .before .before .before .before .before .before .before in
-    let t : c .before .before .served .result .handled ≤ entries = rw (c .before .before .served .ensures) (serve-few (l .loop3 .inv) (omega arith)) in
-    omega (arith, l .loop3 .inv .few)
+    let a = served c in
+    let g = waiting (handed a) in
+    let l = arrivals g in
+    let t : a .served .result .handled ≤ entries = rw (a .served .ensures) (serve-few (l .loop3 .inv) (within g)) in
+    omega (arith, l .loop3 .inv .few, within g)
 
 add-i-3 : tie.Need-add-i-3 Inv-loop2 μ-loop2 Inv-loop3 μ-loop3 Inv-loop4 μ-loop4 Inv-loop μ-loop
 add-i-3 c = omega arith
@@ -342,28 +492,33 @@ loop3-less-3 c = omega arith
 
 loop3-again-3 : tie.Need-loop3-again-3 Inv-loop2 μ-loop2 Inv-loop3 μ-loop3 Inv-loop4 μ-loop4 Inv-loop μ-loop
 loop3-again-3 c =
-    let l = c .before .before .before .before .before .before .before .before .before .before .before .before in
-    serve-more (l .loop3 .inv) (omega arith) _ (c .before .before .served .ensures)
+    let a = served c in
+    let g = waiting (handed a) in
+    serve-more (arrivals g .loop3 .inv) (within g) _ (a .served .ensures)
 
 choice-of-requires :
     tie.Need-choice-of-requires Inv-loop2 μ-loop2 Inv-loop3 μ-loop3 Inv-loop4 μ-loop4 Inv-loop μ-loop
 choice-of-requires c κs =
-    let j = handling (c .before) .before .before .before in
-    let l = j .before .before .before in
-    (chosen-within (now l) (ticking l) (chosen-is (j .before)), charged-is j .task)
+    let j = charged (handling (c .before)) in
+    let a = chosen j in
+    let l = turn a in
+    (chosen-within (now l) (ticking l) (chosen-is a), charged-is j .task)
 
 mul-answers : tie.Need-mul-answers Inv-loop2 μ-loop2 Inv-loop3 μ-loop3 Inv-loop4 μ-loop4 Inv-loop μ-loop
 mul-answers c = omega arith
 
 array-set-from-answers :
     tie.Need-array-set-from-answers Inv-loop2 μ-loop2 Inv-loop3 μ-loop3 Inv-loop4 μ-loop4 Inv-loop μ-loop
-array-set-from-answers c = omega (arith, few (outer (handling (c .before .before))))
+array-set-from-answers c =
+    let m = handling (handled c .before) in
+    omega (arith, few (outer m), begun (chosen (charged m)) .loop-test .taken)
 
 loop4-holds : tie.Need-loop4-holds Inv-loop2 μ-loop2 Inv-loop3 μ-loop3 Inv-loop4 μ-loop4 Inv-loop μ-loop
 loop4-holds c =
-    let e = c .before .before in
+    let t = handled (answered c) in
+    let e = t .before in
     let l = outer (handling e) in
-    lapse-start (now l) (ticking l) (refilled-is (e .before)) (e .loop3 .inv) (c .before .loop3-test .left)
+    lapse-start (now l) (ticking l) (refilled-is (refilled (e .before))) (e .loop3 .inv) (t .loop3-test .left)
 
 mul-v-2 : tie.Need-mul-v-2 Inv-loop2 μ-loop2 Inv-loop3 μ-loop3 Inv-loop4 μ-loop4 Inv-loop μ-loop
 mul-v-2 c = omega arith
@@ -377,13 +532,13 @@ mul-gives-up c = omega arith
 
 array-copy-out-gives-up :
     tie.Need-array-copy-out-gives-up Inv-loop2 μ-loop2 Inv-loop3 μ-loop3 Inv-loop4 μ-loop4 Inv-loop μ-loop
-array-copy-out-gives-up c = inside (c .before)
+array-copy-out-gives-up c = inside (looking c)
 
 gives-up-requires : tie.Need-gives-up-requires Inv-loop2 μ-loop2 Inv-loop3 μ-loop3 Inv-loop4 μ-loop4 Inv-loop μ-loop
 gives-up-requires c κs = search needs
 
 add-p : tie.Need-add-p Inv-loop2 μ-loop2 Inv-loop3 μ-loop3 Inv-loop4 μ-loop4 Inv-loop μ-loop
-add-p c = omega (arith, inside (c .before .before .before .before))
+add-p c = omega (arith, inside (lapses (c .before)))
 
 loop4-less : tie.Need-loop4-less Inv-loop2 μ-loop2 Inv-loop3 μ-loop3 Inv-loop4 μ-loop4 Inv-loop μ-loop
 loop4-less c = omega arith
@@ -391,7 +546,7 @@ loop4-less c = omega arith
 loop4-again : tie.Need-loop4-again Inv-loop2 μ-loop2 Inv-loop3 μ-loop3 Inv-loop4 μ-loop4 Inv-loop μ-loop
 loop4-again c =
     let g = c .before .gives-up in
-    let i = c .before .before .before .before in
+    let i = lapses (c .before) in
     lapse-none (i .before .loop4 .inv) (inside i) (sym (g .ensures) ∙ not-true (g .result) (c .if6 .taken))
 
 mul-given-up : tie.Need-mul-given-up Inv-loop2 μ-loop2 Inv-loop3 μ-loop3 Inv-loop4 μ-loop4 Inv-loop μ-loop
@@ -399,7 +554,7 @@ mul-given-up c = omega arith
 
 array-copy-out-given-up :
     tie.Need-array-copy-out-given-up Inv-loop2 μ-loop2 Inv-loop3 μ-loop3 Inv-loop4 μ-loop4 Inv-loop μ-loop
-array-copy-out-given-up c = inside (c .before .before .before .before)
+array-copy-out-given-up c = inside (lapses (c .before))
 
 given-up-requires : tie.Need-given-up-requires Inv-loop2 μ-loop2 Inv-loop3 μ-loop3 Inv-loop4 μ-loop4 Inv-loop μ-loop
 given-up-requires c κs = search needs
@@ -409,19 +564,19 @@ mul-entries-5 c = omega arith
 
 array-set-from-entries-5 :
     tie.Need-array-set-from-entries-5 Inv-loop2 μ-loop2 Inv-loop3 μ-loop3 Inv-loop4 μ-loop4 Inv-loop μ-loop
-array-set-from-entries-5 c = inside (c .before .before .before .before .before .before)
+array-set-from-entries-5 c = inside (lapses (lapsing c .before))
 
 add-p-2 : tie.Need-add-p-2 Inv-loop2 μ-loop2 Inv-loop3 μ-loop3 Inv-loop4 μ-loop4 Inv-loop μ-loop
-add-p-2 c = omega (arith, inside (c .before .before .before .before .before .before))
+add-p-2 c = omega (arith, inside (lapses (lapsing c .before)))
 
 loop4-less-2 : tie.Need-loop4-less-2 Inv-loop2 μ-loop2 Inv-loop3 μ-loop3 Inv-loop4 μ-loop4 Inv-loop μ-loop
 loop4-less-2 c = omega arith
 
 loop4-again-2 : tie.Need-loop4-again-2 Inv-loop2 μ-loop2 Inv-loop3 μ-loop3 Inv-loop4 μ-loop4 Inv-loop μ-loop
 loop4-again-2 c =
-    let f = c .before .before in
+    let f = lapsing c in
     let g = f .before .gives-up in
-    let i = f .before .before .before .before in
+    let i = lapses (f .before) in
     lapse-given (i .before .loop4 .inv) (inside i) (sym (g .ensures) ∙ not-false (g .result) (f .if6 .left)) (c .given-up .ensures)
 
 add-k : tie.Need-add-k Inv-loop2 μ-loop2 Inv-loop3 μ-loop3 Inv-loop4 μ-loop4 Inv-loop μ-loop
@@ -433,21 +588,22 @@ loop-less c = omega arith
 loop-again : tie.Need-loop-again Inv-loop2 μ-loop2 Inv-loop3 μ-loop3 Inv-loop4 μ-loop4 Inv-loop μ-loop
 loop-again c =
     let p = c .before in
-    let o = p .before in
+    let o = answered (p .before) in
     let e = serving p in
     let m = handling e in
     let l = outer m in
     let k = l .loop .k in
     let i = l .loop .inv in
-    let r = refilled-is (e .before) in
-    let h : entries ≤ e .loop3 .i = o .before .loop3-test .left in
-    let n = tick-state (now l) (ticking l) r (e .loop3 .inv) h (p .loop4 .inv) (l .before .before .before .before .polled-entries .ensures .1) (c .loop4-test .left) in
-    let a = o .choice-of .ensures ∙ charged-is (m .before .before .before) .choice in
+    let x = begun (chosen (charged m)) .loop-test .taken in
+    let r = refilled-is (refilled (e .before)) in
+    let h : entries ≤ e .loop3 .i = handled o .loop3-test .left in
+    let n = tick-state (now l) (ticking l) r (e .loop3 .inv) h (p .loop4 .inv) (polling (l .before) .polled-entries .ensures .1) (c .loop4-test .left) in
+    let a = o .choice-of .ensures ∙ charged-is (charged m) .choice in
     let b = tick-count (now l) (ticking l) r (e .loop3 .inv) h in (
-      omega arith,
+      omega (arith, x),
       rw n (tick-kept (now l) (ticking l)),
       n ∙ state-next k (called l) (now l) (ticking l) (i .2),
-      (λ d. set (i .3 d) k (answer (a d) (b d))) ∙ answer-next k (called l) (now l) (ticking l) (i .2) (omega (arith, few l)),
+      (λ d. set (i .3 d) k (answer (a d) (b d))) ∙ answer-next k (called l) (now l) (ticking l) (i .2) (omega (arith, few l, x)),
     )
 
 none-requires : tie.Need-none-requires Inv-loop2 μ-loop2 Inv-loop3 μ-loop3 Inv-loop4 μ-loop4 Inv-loop μ-loop
@@ -455,11 +611,12 @@ none-requires c κs = search needs
 
 returns : tie.Need-returns Inv-loop2 μ-loop2 Inv-loop3 μ-loop3 Inv-loop4 μ-loop4 Inv-loop μ-loop
 returns c =
-    let l = c .before .before in
-    let n : l .loop .k ≡ l .before .before .before .before .before .args .n = omega (arith, c .before .loop-test .left) in
+    let z = ended c in
+    let l = z .before in
+    let n : l .loop .k ≡ start (l .before) .args .n = omega (arith, z .loop-test .left) in
     let a = l .loop .inv .3 ∙ ap (λ (k : ℕ). answersIn k (called l)) n in
     let e = l .loop .inv .2 ∙ ap (λ (k : ℕ). stateAfterTicks k (called l)) n in
-    λ k. record { answers = a k; state = e k; refusal = c .none .ensures k; count = l .before .before .before .before .before .args .n }
+    λ k. record { answers = a k; state = e k; refusal = c .none .ensures k; count = start (l .before) .args .n }
 
 pub ticks-spec : {M : Type 1} → statement M
 ticks-spec =

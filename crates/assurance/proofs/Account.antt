@@ -6,9 +6,9 @@ use Prim.Native.Nat.{ℕ, zero, suc, _+_, _-_, _*_, _≤_, _<_}
 use native.Mathlib.Nat.{add-zero, add-suc, mod-lt, div-add-mod'}
 use native.Mathlib.Decide.{decLe}
 use native.Mathlib.Omega.{arith}
-use Rattle.small.specs.Small.{sumBelow}
+use Rattle.small.specs.Small.{sumBelow, num}
 use Rattle.small.proofs.Sums.{sum-mono, sum-swap, sum-cut}
-use Rattle.assurance.specs.Demand3.{ceil, num}
+use Rattle.assurance.specs.Demand3.{ceil}
 
 pub ceil-covers : (a b : ℕ) → 0 < b → a ≤ ceil a b * b
 unfolding ceil

@@ -9,8 +9,9 @@ use native.Mathlib.Omega.{arith}
 use lib.Dec.{ltb}
 use lib.ListN.{length, getD, length-map}
 use borrow.Author.Tests.{not-false, lt-ltb}
-use Rattle.small.specs.Small.{both, sumBelow}
+use Rattle.small.specs.Small.{both, sumBelow, num, tally}
 use Rattle.queue.specs.Limits.{longest}
+use Rattle.table.specs.Kind.{pollingKind}
 use Rattle.table.specs.Limits.{mostWork}
 use Rattle.table.specs.Sound.{tableb}
 use Rattle.table.specs.Meaning.{Sized}
@@ -22,9 +23,12 @@ use Rattle.scheduler.specs.Meaning.{budgetAt, lapsesAt}
 use Rattle.scheduler.specs.declared.State.{State}
 use Rattle.scheduler.specs.declared.Choice.{Choice}
 use Rattle.scheduler.proofs.Laws.{polling-wants, not-polling, working}
-use Rattle.assurance.specs.Demand3.{kindIn, periodIn, budgetIn, mostHeld, sure, Call, Seen, ticksOf, ticksAsked, periodTicks, tickEnd, periodEnds, num, tally, wantsAt, runs, heldOff, declines, workless, Demand3}
+use Rattle.assurance.specs.History.{Call, Seen, ticksOf, ticksAsked, tickEnd}
+use Rattle.table.specs.Table.{kindIn, periodIn, budgetIn}
+use Rattle.assurance.specs.Demand3.{mostHeld, sure, periodTicks, periodEnds, wantsAt, runs, heldOff, declines, workless, Demand3}
 use Rattle.assurance.proofs.Ticks.{Full, Since, Run, starts, most-run, held, least}
-use Rattle.assurance.proofs.History.{noTick, stateAt, choiceAt, endsOf, endAt, ends-whole, part-length, part-count, part-none, period-low, start-full, fresh-row, all-run}
+use Rattle.small.proofs.Tallies.{part-length, part-count, part-none}
+use Rattle.assurance.proofs.History.{noTick, stateAt, choiceAt, endsOf, endAt, ends-whole, period-low, start-full, fresh-row, all-run}
 
 -- one that does not decline a tick wants it, if it has budget
 eager : (w : Bool) (b : ℕ) → both (ltb 0 b) (not w) ≡ false → 0 < b → w ≡ true
@@ -97,12 +101,12 @@ demand-3 t h z cs i l k =
         → sure t i ≤ tally (runs i) (periodTicks t cs i k)
     least-run whole kept wants = rw (counts (runs i), whole) (least t N u v c R i l b (full (omega (arith, inside whole))) (inside whole) kept wants)
 
-    least-other : kindIn t i ≢ 3 → m ≡ P → tally (declines i) (periodTicks t cs i k) ≡ 0 → sure t i ≤ tally (runs i) (periodTicks t cs i k)
+    least-other : kindIn t i ≢ pollingKind → m ≡ P → tally (declines i) (periodTicks t cs i k) ≡ 0 → sure t i ≤ tally (runs i) (periodTicks t cs i k)
     least-other p whole none = least-run whole
         (λ x _ o. not-polling (u x) i (rw (since whole x o .tables .0) p))
         (λ x j o. eager (wantsAt (v x) i) (budgetAt (v x) i) (part-none (noTick e) xs b P (declines i) none x j o (omega (arith, inside whole))))
 
-    least-polling : kindIn t i ≡ 3 → m ≡ P → tally (workless i) (periodEnds t cs i k) ≡ 0 → sure t i ≤ tally (runs i) (periodTicks t cs i k)
+    least-polling : kindIn t i ≡ pollingKind → m ≡ P → tally (workless i) (periodEnds t cs i k) ≡ 0 → sure t i ≤ tally (runs i) (periodTicks t cs i k)
     least-polling p whole none = least-run whole
         (λ x j o. working (u x) i (work x j o))
         (λ x j o _. polling-wants (serverAt (v x) i .kind) (entryAt (v x) i) (rw (since whole x o .tables .1) p) ∙ since whole x o .work i (work x j o))

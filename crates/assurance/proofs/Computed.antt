@@ -1,6 +1,6 @@
 -- Demand 3's numbers, all by computing. Assumes nothing.
 use mathlib.Core.Path.{refl}
-use Rattle.small.specs.Small.{sumBelow}
+use Rattle.small.specs.Small.{sumBelow, tally}
 use Rattle.queue.specs.Row.{cellsOf, queueOf, cellsFor}
 use Rattle.queue.specs.Sound.{sameb, soundb}
 use Rattle.queue.specs.Holds.{holdsb}
@@ -13,7 +13,8 @@ use Rattle.scheduler.specs.Arrive.{loadAfter, arriveOf}
 use Rattle.scheduler.specs.Tick.{charge, turnOf, roomOf, served4, stateAfter, handledOf, againb, tickOf}
 use Rattle.scheduler.specs.Run.{runOf}
 use Rattle.scheduler.specs.Fresh.{freshQueue, freshEntry, freshState, freshOf}
-use Rattle.assurance.specs.Demand3.{ceil, mostHeld, sure, ticksOf, periodTicks, periodEnds, tally}
+use Rattle.assurance.specs.History.{ticksOf}
+use Rattle.assurance.specs.Demand3.{ceil, mostHeld, sure, periodTicks, periodEnds}
 use Rattle.assurance.specs.Worked.{Worked}
 
 pub worked : Worked

@@ -10,7 +10,8 @@ use Rattle.setup.proofs.RoundTrip.{accepted-sound}
 use Rattle.scheduler.specs.Fresh.{freshOf}
 use Rattle.scheduler.specs.declared.Made.{Made}
 use Rattle.scheduler.proofs.FreshSound.{fresh-made}
-use Rattle.assurance.specs.Demand3.{Call, ticksOf, ticksAsked, Demand3}
+use Rattle.assurance.specs.History.{Call, ticksOf, ticksAsked}
+use Rattle.assurance.specs.Demand3.{Demand3}
 use Rattle.assurance.proofs.Assured.{demand-3, all-ticks}
 
 -- of every file that the reader accepts, every list of calls, every server in use and each of its periods

@@ -1,14 +1,13 @@
 -- Every history of calls from a sound state is a row of ticks that do what the scheduler's laws say. Assumes nothing.
 use mathlib.Core.Path.{_≡_, refl, ap, _∙_}
-use mathlib.Core.Bool.{Bool, true, false}
+use mathlib.Core.Bool.{true}
 use mathlib.Core.List.{List, [], _∷_, _++_, map}
-use Prim.Native.Nat.{ℕ, zero, suc, _+_, _-_, _≤_, _<_, min}
+use Prim.Native.Nat.{ℕ, zero, suc, _+_, _-_, _≤_, _<_}
 use native.Mathlib.Nat.{zero-add, suc-add}
 use native.Mathlib.Omega.{arith}
-use lib.ListN.{length, take, drop, getD, replicate, length-map, length-take, length-drop}
-use lib.Seq.{drop-cons, getD-take, getD-drop}
-use Rattle.small.specs.Small.{sumBelow}
-use Rattle.small.proofs.Sums.{sum-same, sum-term, sum-front}
+use lib.ListN.{length, take, drop, getD, replicate, length-map}
+use lib.Seq.{drop-cons}
+use Rattle.small.proofs.Lists.{map-drop, map-less}
 use Rattle.queue.specs.Limits.{longest}
 use Rattle.queue.specs.declared.Queue.{Queue}
 use Rattle.queue.proofs.DueTimes.{away}
@@ -31,7 +30,8 @@ use Rattle.scheduler.proofs.FreshSound.{fresh-sound, fresh-made, fresh-budget, 
 use Rattle.scheduler.proofs.KeptSizes.{tick-sized, arrive-sized, fresh-sized}
 use Rattle.scheduler.proofs.FirstReady.{chosen-first}
 use Rattle.scheduler.proofs.Laws.{tick-spent, tick-filled, arrive-budget, arrive-refills, arrive-table, arrive-pending, tick-table}
-use Rattle.assurance.specs.Demand3.{periodIn, Call, tick, run, arrival, Seen, ticksOf, ticksAsked, tickEnd, endBefore, num, tally}
+use Rattle.assurance.specs.History.{Call, tick, run, arrival, Seen, ticksOf, ticksAsked, tickEnd, endBefore}
+use Rattle.table.specs.Table.{periodIn}
 use Rattle.assurance.proofs.Ticks.{Full, OneTick, Since, Run, at-most}
 use Rattle.assurance.proofs.RunTicks.{seen-tick, run-ticks}
 
@@ -72,16 +72,6 @@ abbrev pub endAt : State → State → List Seen → ℕ → State
 endAt e s xs x = getD (endsOf s xs) x e
 
 -- of a period that is whole: the end before it and the ends of its ticks but the last are as many of these from its begin on
-
-map-drop : {A B : Type 0} (f : A → B) (b : ℕ) (xs : List A) → drop b (map f xs) ≡ map f (drop b xs)
-map-drop f zero xs = refl
-map-drop f (suc b) [] = refl
-map-drop f (suc b) (x ∷ xs) = map-drop f b xs
-
-map-less : {A B : Type 0} (f : A → B) (p : ℕ) (xs : List A) → map f (take p (take (suc p) xs)) ≡ take p (map f xs)
-map-less f zero xs = refl
-map-less f (suc p) [] = refl
-map-less f (suc p) (x ∷ xs) = ap (λ ys. f x ∷ ys) (map-less f p xs)
 
 end-before : (s : State) (xs : List Seen) (b : ℕ) → endBefore s xs b ≡ getD (endsOf s xs) b s
 end-before s xs zero = refl
@@ -172,38 +162,6 @@ module _ (t : Table) where
     row-tick s [] r x l = absurd (omega arith)
     row-tick s (y ∷ ys) r zero l = r .1
     row-tick s (y ∷ ys) r (suc x) l = row-tick (tickEnd y) ys (r .2) x (omega arith)
-
--- A PART of a list: n elements from place b on, or as many as there are; d stands behind the last one
-
-module _ {A : Type 0} (d : A) where
-  count-sum : (p : A → Bool) (xs : List A) → tally p xs ≡ sumBelow (λ x. num (p (getD xs x d))) (length xs)
-  unfolding tally sumBelow
-  count-sum p [] = refl
-  count-sum p (x ∷ xs) = omega (arith, count-sum p xs, sum-front (λ y. num (p (getD (x ∷ xs) y d))) (length xs))
-
-  module _ (xs : List A) (b n : ℕ) where
-    abbrev part : List A
-    part = take n (drop b xs)
-
-    pub part-length : length part ≡ min n (length xs - b)
-    part-length = simp (length-take, length-drop)
-
-    pub part-count : (p : A → Bool) → tally p part ≡ sumBelow (λ x. num (p (getD xs (b + x) d))) (length part)
-    part-count p = count-sum p part ∙ sum-same _ _ (length part) (λ x l. ap (λ (y : A). num (p y)) (at x l))
-      where
-        at : (x : ℕ) → x < length part → getD part x d ≡ getD xs (b + x) d
-        at x l = let m : x < n = omega (arith, part-length) in rw (getD-take n (drop b xs) x d m, getD-drop)
-
-    -- where none passes the test, it fails at each place
-    pub part-none : (p : A → Bool) → tally p part ≡ 0 → (x : ℕ) → b ≤ x → x < b + n → x < length xs → p (getD xs x d) ≡ false
-    part-none p z x l m h =
-        let e : b + (x - b) ≡ x = omega arith in
-        rw e at (off (p (getD xs (b + (x - b)) d))
-        (omega (arith, part-count p, sum-term (λ y. num (p (getD xs (b + y) d))) (length part) (x - b) (omega (arith, part-length)))))
-      where
-        off : (b : Bool) → num b ≤ 0 → b ≡ false
-        off true k = absurd (omega arith)
-        off false k = refl
 
 -- FROM A FRESH SETUP
 

@@ -12,6 +12,7 @@ use lib.ListN.{getD}
 use borrow.Author.Tests.{lt-ltb, eq-eqb, eqb-true, eqb-false, not-false}
 use Rattle.small.proofs.Tests.{contrary}
 use Rattle.queue.specs.Limits.{longest}
+use Rattle.table.specs.Kind.{pollingKind}
 use Rattle.table.specs.Limits.{mostWork}
 use Rattle.table.specs.Table.{zeroServer}
 use Rattle.table.specs.declared.Table.{Table}
@@ -29,22 +30,23 @@ use Rattle.scheduler.proofs.TickSound.{tick-accepts, ticked-sound, arrive-sound
 use Rattle.scheduler.proofs.KeptSizes.{tick-sized, arrive-sized}
 use Rattle.scheduler.proofs.FirstReady.{chosen-first}
 use Rattle.scheduler.proofs.Laws.{tick-filled, tick-table, not-polling, working, arrive-budget}
-use Rattle.assurance.specs.Demand3.{arrived, wantsAt, workless}
+use Rattle.assurance.specs.History.{arrived}
+use Rattle.assurance.specs.Demand3.{wantsAt, workless}
 
 -- nothing is given up, where a polling server has work behind the tick
-keeps : (s : State) → stateb s ≡ true → (i : ℕ) → (serverAt s i .kind ≡ 3 → workless i (tickOf s .state) ≡ false) → lapsesAt (tickOf s .state) i ≡ false
-keeps s h i k = go (eqb (serverAt s i .kind) 3) refl
+keeps : (s : State) → stateb s ≡ true → (i : ℕ) → (serverAt s i .kind ≡ pollingKind → workless i (tickOf s .state) ≡ false) → lapsesAt (tickOf s .state) i ≡ false
+keeps s h i k = go (eqb (serverAt s i .kind) pollingKind) refl
   where
     same : serverAt (tickOf s .state) i .kind ≡ serverAt s i .kind
     same = rw (tick-accepts s h) (ap (λ (t : Table). getD (t .servers) i zeroServer .kind) (tick-table s))
 
-    go : (b : Bool) → eqb (serverAt s i .kind) 3 ≡ b → lapsesAt (tickOf s .state) i ≡ false
-    go true p = working (tickOf s .state) i (not-false _ (k (eqb-true (serverAt s i .kind) 3 p)))
-    go false p = not-polling (tickOf s .state) i (λ q. eqb-false (serverAt s i .kind) 3 p (sym same ∙ q))
+    go : (b : Bool) → eqb (serverAt s i .kind) pollingKind ≡ b → lapsesAt (tickOf s .state) i ≡ false
+    go true p = working (tickOf s .state) i (not-false _ (k (eqb-true (serverAt s i .kind) pollingKind p)))
+    go false p = not-polling (tickOf s .state) i (λ q. eqb-false (serverAt s i .kind) pollingKind p (sym same ∙ q))
 
 -- on every sound state, whatever is left of the budget and whomever the tick serves: a budget of 1 that this tick takes is full on the next one too
 pub refilled-full : (s : State) → SizedState s → stateb s ≡ true → (i : ℕ) → i < s .table .count → refillAway s i ≡ 1
-    → (serverAt s i .kind ≡ 3 → workless i (tickOf s .state) ≡ false)
+    → (serverAt s i .kind ≡ pollingKind → workless i (tickOf s .state) ≡ false)
     → budgetAt (tickOf s .state) i ≡ fullAt s i
 refilled-full s z h i l e k = let n = rw (tick-accepts s h) at (keeps s h i k) in rw (tick-accepts s h) (rw n at (tick-filled s z h i l e .budget))
 
@@ -78,7 +80,7 @@ serves-highest s i r above = go
 
 -- whatever arrives between the two ticks: the next tick runs it, if it wants that tick and nobody above it is ready
 pub refilled-runs : (s : State) → SizedState s → stateb s ≡ true → (i : ℕ) → i < s .table .count → refillAway s i ≡ 1
-    → (serverAt s i .kind ≡ 3 → workless i (tickOf s .state) ≡ false)
+    → (serverAt s i .kind ≡ pollingKind → workless i (tickOf s .state) ≡ false)
     → (between : List (ℕ × ℕ)) → let next = arrived (tickOf s .state) between in
     wantsAt next i ≡ true → ((j : ℕ) → j < i → readyAt next j ≡ false) → servesb (tickOf next .choice) i ≡ true
 refilled-runs s z h i l e k between w above =

@@ -15,7 +15,7 @@ use Rattle.scheduler.specs.declared.Answer.{Answer}
 use Rattle.scheduler.proofs.Refusals.{run-accepted}
 use Rattle.scheduler.proofs.Unchanged.{tick-unchanged, run-unchanged, run-done}
 use Rattle.scheduler.proofs.TickSound.{tick-sound-accepted, ticked-sound}
-use Rattle.assurance.specs.Demand3.{Call, tick, run, Seen, seen, seenBy, ticksOf}
+use Rattle.assurance.specs.History.{Call, tick, run, Seen, seen, seenBy, ticksOf}
 
 -- a tick of a sound state is seen, and a refused one is not
 

@@ -7,7 +7,7 @@ use native.Mathlib.Decide.{decLt}
 use native.Mathlib.Omega.{arith}
 use lib.Dec.{ltb, eqb}
 use borrow.Author.Tests.{eqb-true, eq-eqb, ltb-true, lt-ltb}
-use Rattle.small.specs.Small.{pick, both, sumBelow}
+use Rattle.small.specs.Small.{pick, both, sumBelow, num}
 use Rattle.small.proofs.Tests.{both-right, both-false}
 use Rattle.small.proofs.Sums.{sum-term}
 use Rattle.table.specs.declared.Table.{Table}
@@ -17,7 +17,8 @@ use Rattle.scheduler.specs.Meaning.{readyAt, budgetAt, lapsesAt, refillAway, Hi
 use Rattle.scheduler.specs.declared.State.{State}
 use Rattle.scheduler.specs.declared.Choice.{Choice}
 use Rattle.scheduler.specs.declared.Choice.the-variants.{Idle, Burning, Running}
-use Rattle.assurance.specs.Demand3.{periodIn, budgetIn, mostHeld, sure, num, wantsAt}
+use Rattle.table.specs.Table.{periodIn, budgetIn}
+use Rattle.assurance.specs.Demand3.{mostHeld, sure, wantsAt}
 use Rattle.assurance.proofs.Account.{Account, counted, most, busy, last, charged-to}
 
 -- THE INTERFACE: what the scheduler's laws say of one tick, for demand 3 to hold of every row of ticks

@@ -4,17 +4,20 @@ use mathlib.Core.Bool.{true}
 use mathlib.Core.List.{List, [], _∷_}
 use lib.ListN.{length, replicate}
 use Rattle.queue.specs.Limits.{longest}
+use Rattle.table.specs.Kind.{idlingKind, deferrableKind, pollingKind}
 use Rattle.table.specs.Limits.{mostWork}
 use Rattle.table.specs.Sound.{tableb}
 use Rattle.table.specs.declared.Table.{Table}
 use Rattle.scheduler.specs.Edge.{onArrival, periodic, server, setup, example}
 use Rattle.scheduler.specs.Run.{stateAfterTicks}
 use Rattle.scheduler.specs.Fresh.{freshOf}
-use Rattle.assurance.specs.Demand3.{mostHeld, sure, Call, tick, run, arrival, Seen, periodTicks, periodEnds, tally, runs, heldOff, declines, workless}
+use Rattle.assurance.specs.History.{Call, tick, run, arrival, Seen}
+use Rattle.small.specs.Small.{tally}
+use Rattle.assurance.specs.Demand3.{mostHeld, sure, periodTicks, periodEnds, runs, heldOff, declines, workless}
 
 -- server 0 deferrable, P 3, C 1, one task on arrival, E 3; server 1 idling, P 5, C 5, no tasks
 abbrev pub tight : Table
-tight = setup (server 2 3 1 (onArrival 3 ∷ []) ∷ server 1 5 5 [] ∷ [])
+tight = setup (server deferrableKind 3 1 (onArrival 3 ∷ []) ∷ server idlingKind 5 5 [] ∷ [])
 
 -- an arrival (0, 0) between a run of five ticks and five single ones: server 0 runs on ticks 5, 6 and 9, at the end of one of its periods and in the first
 -- ticks of the next two
@@ -23,21 +26,21 @@ tightCalls = run 5 ∷ arrival 0 0 ∷ replicate 5 tick
 
 -- the same with server 1 polling, P 5, C 5, one task on arrival, E 20, whose arrival comes first: its budget is 0 up to its refill on tick 4
 abbrev pub tightPolled : Table
-tightPolled = setup (server 2 3 1 (onArrival 3 ∷ []) ∷ server 3 5 5 (onArrival 20 ∷ []) ∷ [])
+tightPolled = setup (server deferrableKind 3 1 (onArrival 3 ∷ []) ∷ server pollingKind 5 5 (onArrival 20 ∷ []) ∷ [])
 
 abbrev pub polledCalls : List Call
 polledCalls = arrival 1 0 ∷ tightCalls
 
 -- one polling server, P 4, C 2, one task on arrival, E 1. Its work ends on tick 4, the first of its period 1, and more arrives before tick 5
 abbrev pub late : Table
-late = setup (server 3 4 2 (onArrival 1 ∷ []) ∷ [])
+late = setup (server pollingKind 4 2 (onArrival 1 ∷ []) ∷ [])
 
 abbrev pub lateCalls : List Call
 lateCalls = run 3 ∷ arrival 0 0 ∷ run 2 ∷ arrival 0 0 ∷ run 3 ∷ []
 
 -- one polling server, P 2, C 2, one periodic task, E 2, T 8, O 0: all of its work is done with the last tick of its period 0
 abbrev pub ending : Table
-ending = setup (server 3 2 2 (periodic 2 8 0 ∷ []) ∷ [])
+ending = setup (server pollingKind 2 2 (periodic 2 8 0 ∷ []) ∷ [])
 
 pub record Worked : Type 0 where
   -- "Above, W for server 1 is 4, so it is sure of 1 tick in a period."

@@ -25,13 +25,12 @@ ghost use Rattle.setup.specs.Layout.{bytesOf};
 ghost use Rattle.setup.specs.Write.{writeRefusal};
 ghost use Rattle.message.specs.Message.{readOf, rawBytes};
 ghost use Rattle.message.specs.Message.{writeRefusal as messageRefusal};
-ghost use Rattle.scheduler.specs.State.{entryAt};
+ghost use Rattle.scheduler.specs.State.{entryAt, loadAt};
 ghost use Rattle.scheduler.specs.Sound.{stateb};
 ghost use Rattle.scheduler.specs.Choice.{choiceNumber};
 ghost use Rattle.scheduler.specs.Arrive.{arrivalNumber, arriveOf};
 ghost use Rattle.scheduler.specs.Tick.{tickOf};
 ghost use Rattle.scheduler.specs.Fresh.{freshOf};
-ghost use Rattle.scheduler.specs.Meaning.{loadAt};
 ghost use Rattle.port.specs.Words.{word, queueIn, queueWords, loadWords, tableIn, tableWords, stateIn, stateWords};
 ghost use Rattle.port.specs.Exports.{heldAfter, heldQueue, chosenServer, chosenTask, answerWords, budgetRefusal, loadRefusal, messageWords};
 

@@ -12,12 +12,13 @@ use Rattle.small.specs.Small.{pick, both}
 use Rattle.small.proofs.Tests.{both-left, both-false, contrary}
 use Rattle.small.proofs.Used.{in-use}
 use Rattle.queue.specs.Limits.{longest}
+use Rattle.table.specs.Kind.{idlingKind}
 use Rattle.table.specs.Limits.{entries, mostWork}
 use Rattle.table.specs.Table.{zeroServer}
 use Rattle.table.specs.Sound.{serverb, zeroServerb}
 use Rattle.scheduler.specs.State.{zeroLoad, zeroEntry, serverAt, entryAt}
 use Rattle.scheduler.specs.Sound.{loadb, zeroLoadb, stateb}
-use Rattle.scheduler.specs.Choice.{firstPending, somePending, wantsb, chosenOf, choiceOf, servesb, choiceNumber}
+use Rattle.scheduler.specs.Choice.{firstPending, somePending, wantsb, chosenOf, choiceOf, servesb, choiceNumber, worksb}
 use Rattle.scheduler.specs.Tick.{tickOf}
 use Rattle.scheduler.specs.Meaning.{SizedState, readyAt, pendingAt, Highest, Chosen}
 use Rattle.scheduler.specs.declared.Load.{Load}
@@ -29,13 +30,13 @@ use Rattle.scheduler.proofs.Choosing.{FirstOf, first-pending, some-firs
 use Rattle.scheduler.proofs.TickSound.{table-used, tick-accepts}
 
 -- a server that wants the tick with no work pending is idling
-wants-idling : (kind : ℕ) (e : Entry) → somePending (e .loads) ≡ false → wantsb kind e ≡ true → kind ≡ 1
+wants-idling : (kind : ℕ) (e : Entry) → somePending (e .loads) ≡ false → wantsb kind e ≡ true → kind ≡ idlingKind
 unfolding wantsb
-wants-idling kind e n w = go (eqb kind 1) refl (rw n at w)
+wants-idling kind e n w = go (eqb kind idlingKind) refl (rw n at w)
   where
-    go : (b : Bool) → eqb kind 1 ≡ b → pick b true (both (pick (eqb kind 2) true (eqb kind 3)) false) ≡ true → kind ≡ 1
+    go : (b : Bool) → eqb kind idlingKind ≡ b → pick b true (both (worksb kind) false) ≡ true → kind ≡ idlingKind
     go true p r = eqb-true kind 1 p
-    go false p r = contrary r (both-false (pick (eqb kind 2) true (eqb kind 3)))
+    go false p r = contrary r (both-false (worksb kind))
 
 -- one of no kind never does
 rests : (kind : ℕ) (e : Entry) → kind ≡ 0 → wantsb kind e ≡ false

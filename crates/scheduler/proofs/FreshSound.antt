@@ -24,7 +24,7 @@ use Rattle.queue.proofs.Keeps.{empty-sound, empty-events, insert-sound}
 use Rattle.queue.proofs.DueTimes.{there, away, insert-others, insert-new}
 use Rattle.queue.proofs.Room.{room}
 use Rattle.table.specs.Limits.{mostWork, entries}
-use Rattle.table.specs.Table.{periodOf, zeroTask, zeroServer}
+use Rattle.table.specs.Table.{periodOf, zeroTask, zeroServer, periodIn}
 use Rattle.table.specs.Sound.{taskb, zeroTaskb, tableb}
 use Rattle.table.specs.declared.Release.{Release}
 use Rattle.table.specs.declared.Release.the-variants.{OnArrival, Periodic}
@@ -32,12 +32,12 @@ use Rattle.table.specs.declared.Task.{Task}
 use Rattle.table.specs.declared.Server.{Server}
 use Rattle.table.specs.declared.Table.{Table}
 use Rattle.table.proofs.Soundness.{range-within, zero-task}
-use Rattle.scheduler.specs.State.{mostPending, zeroLoad, zeroEntry, serverAt, taskAt}
+use Rattle.scheduler.specs.State.{mostPending, zeroLoad, zeroEntry, serverAt, taskAt, loadAt}
 use Rattle.scheduler.specs.Polling.{lapsed}
 use Rattle.scheduler.specs.Sound.{releaseReach, taskReaches, serverReaches, loadb, zeroLoadb, entryb, entriesb, allSpentb, stateb}
 use Rattle.scheduler.specs.Tick.{periodAt, fullAt}
 use Rattle.scheduler.specs.Fresh.{firstAway, taskAway, serverAway, firstWork, freshLoad, freshLoads, putIn, freshQueue, filledEntry, freshEntry, freshEntries, freshState, madeWith, freshOf}
-use Rattle.scheduler.specs.Meaning.{loadAt, budgetAt, lapsesAt, refillAway, arrivalAway}
+use Rattle.scheduler.specs.Meaning.{budgetAt, lapsesAt, refillAway, arrivalAway}
 use Rattle.scheduler.specs.declared.Entry.{Entry}
 use Rattle.scheduler.proofs.Refusals.{fresh-accepted}
 use Rattle.scheduler.proofs.Unchanged.{fresh-done}
@@ -45,7 +45,7 @@ use Rattle.scheduler.proofs.Stated.{entry-stated, ServerStated, zero-st
 use Rattle.scheduler.proofs.Lapsing.{lapsed-keeps, lapsed-budget, lapsed-sound, lapsed-spent}
 use Rattle.scheduler.proofs.HeldEach.{HeldEach, held-each, few-ids}
 use Rattle.scheduler.proofs.Again.{Delayed}
-use Rattle.scheduler.proofs.TickSound.{task-delayed, Every, state-parts, table-every, periodIn, server-delayed}
+use Rattle.scheduler.proofs.TickSound.{task-delayed, Every, state-parts, table-every, server-delayed}
 
 -- EVENTS PUT IN BY TABLE ORDER
 
@@ -300,7 +300,7 @@ every-at (s ∷ ss) k zero = k .0
 every-at (s ∷ ss) k (suc i) = every-at ss (k .1) i
 
 module _ (t : Table) (h : tableb longest mostWork t ≡ true) where
-  refill-near : (j : ℕ) → periodIn (t .servers) j ≤ getD (serverReaches (t .servers)) j 0
+  refill-near : (j : ℕ) → periodIn t j ≤ getD (serverReaches (t .servers)) j 0
   refill-near j = rw (server-reach (t .servers) j) (omega arith)
 
   -- THE FRESH STATE OF A SOUND TABLE IS SOUND

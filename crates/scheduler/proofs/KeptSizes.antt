@@ -13,7 +13,8 @@ use Rattle.table.specs.declared.Table.{Table}
 use Rattle.scheduler.specs.State.{zeroEntry, withBudget, serverAt, entryAt, taskAt}
 use Rattle.scheduler.specs.Choice.{firstPending, chosenOf}
 use Rattle.scheduler.specs.Arrive.{loadAfter, withArrival, withLoads, arriveOf}
-use Rattle.scheduler.specs.Tick.{lessWork, charge, dueIn, refilled, fullAt, arrivedLoads, served4, eachEntry, chargedEntries, handledEntries, stateAfter}
+use Rattle.scheduler.specs.Moves.{chargedEntries, handledEntries}
+use Rattle.scheduler.specs.Tick.{lessWork, charge, dueIn, refilled, fullAt, arrivedLoads, served4, eachEntry, stateAfter}
 use Rattle.scheduler.specs.Fresh.{freshLoads, filledEntry, freshEntry, freshEntries, freshState}
 use Rattle.scheduler.specs.Meaning.{SizedState}
 use Rattle.scheduler.specs.declared.Load.{Load}

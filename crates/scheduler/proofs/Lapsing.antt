@@ -11,6 +11,7 @@ use borrow.Author.Tests.{eqb-true, eq-eqb, ne-eqb, ltb-true, ltb-false, lt-ltb}
 use Rattle.small.specs.Small.{pick, both}
 use Rattle.small.proofs.Tests.{both-left, both-right, either-true, contrary}
 use Rattle.queue.specs.Limits.{longest}
+use Rattle.table.specs.Kind.{pollingKind}
 use Rattle.table.specs.Limits.{mostWork, entries}
 use Rattle.table.specs.Table.{zeroServer}
 use Rattle.table.specs.Sound.{tableb}
@@ -127,10 +128,10 @@ polled-all ss n h i g = let l : length ss ≤ i = omega arith in rw (List·getD-
 
 -- none is where no server in use is
 pub polled-none : (t : Table) → length (t .servers) ≡ entries → tableb longest mostWork t ≡ true
-    → ((i : ℕ) → i < t .count → eqb (getD (t .servers) i zeroServer .kind) 3 ≡ false) → PolledBelow (t .servers) 0
+    → ((i : ℕ) → i < t .count → eqb (getD (t .servers) i zeroServer .kind) pollingKind ≡ false) → PolledBelow (t .servers) 0
 polled-none t full h k i g = go (decLt i (t .count)) (decLt i entries)
   where
-    go : Dec (i < t .count) → Dec (i < entries) → eqb (getD (t .servers) i zeroServer .kind) 3 ≡ false
+    go : Dec (i < t .count) → Dec (i < entries) → eqb (getD (t .servers) i zeroServer .kind) pollingKind ≡ false
     go (yes u) _ = k i u
     go (no u) (yes l) = rw (eqb-true (getD (t .servers) i zeroServer .kind) 0 (both-left _ _ (table-stated t full h .unused i (omega arith) l)))
     go (no u) (no l) = polled-all (t .servers) entries (omega (arith, full)) i (omega arith)

@@ -12,13 +12,15 @@ use Rattle.small.specs.Small.{pick, alter}
 use Rattle.small.proofs.Tests.{both-left, both-right, both-false}
 use Rattle.small.proofs.Altered.{length-alter, read-altered, alter-keeps}
 use Rattle.queue.proofs.DueTimes.{there}
+use Rattle.table.specs.Kind.{pollingKind}
 use Rattle.table.specs.Limits.{entries}
 use Rattle.table.specs.declared.Server.{Server}
 use Rattle.scheduler.specs.State.{zeroEntry, withBudget, serverAt, entryAt, taskAt}
 use Rattle.scheduler.specs.Sound.{serverReaches, stateb}
 use Rattle.scheduler.specs.Choice.{somePending, wantsb, chosenOf, choiceOf, servesb}
 use Rattle.scheduler.specs.Arrive.{withArrival, withLoads, arriveOf}
-use Rattle.scheduler.specs.Tick.{charge, dueIn, refilled, periodAt, fullAt, served4, eachEntry, chargedEntries, handledEntries, stateAfter}
+use Rattle.scheduler.specs.Moves.{chargedEntries, handledEntries}
+use Rattle.scheduler.specs.Tick.{charge, dueIn, refilled, periodAt, fullAt, served4, eachEntry, stateAfter}
 use Rattle.scheduler.specs.Meaning.{SizedState, pendingAt, budgetAt, lapsesAt, refillAway, SoundState, Spent, Filled}
 use Rattle.scheduler.specs.declared.Entry.{Entry}
 use Rattle.scheduler.specs.declared.State.{State}
@@ -127,27 +129,27 @@ unfolding wantsb
 wants-alike e = refl
 
 -- where work is pending
-pub polling-wants : (kind : ℕ) (e : Entry) → kind ≡ 3 → wantsb kind e ≡ somePending (e .loads)
+pub polling-wants : (kind : ℕ) (e : Entry) → kind ≡ pollingKind → wantsb kind e ≡ somePending (e .loads)
 unfolding wantsb
 polling-wants kind e k = rw k
 
 -- "a polling server with no pending work"
-pub lapses-words : (s : State) (i : ℕ) → lapsesAt s i ≡ true ↔ (serverAt s i .kind ≡ 3) × ((j : ℕ) → pendingAt s i j ≡ false)
+pub lapses-words : (s : State) (i : ℕ) → lapsesAt s i ≡ true ↔ (serverAt s i .kind ≡ pollingKind) × ((j : ℕ) → pendingAt s i j ≡ false)
 lapses-words s i = (
   λ h. (
-    eqb-true (serverAt s i .kind) 3 (both-left _ _ h),
-    some-none (entryAt s i .loads) .0 (not-true (somePending (entryAt s i .loads)) (both-right (eqb (serverAt s i .kind) 3) _ h)),
+    eqb-true (serverAt s i .kind) pollingKind (both-left _ _ h),
+    some-none (entryAt s i .loads) .0 (not-true (somePending (entryAt s i .loads)) (both-right (eqb (serverAt s i .kind) pollingKind) _ h)),
   ),
-  λ w. rw (eq-eqb (serverAt s i .kind) 3 (w .0), some-none (entryAt s i .loads) .1 (w .1)),
+  λ w. rw (eq-eqb (serverAt s i .kind) pollingKind (w .0), some-none (entryAt s i .loads) .1 (w .1)),
 )
 
 -- a server gives nothing up where it is not polling, and where work is pending
 
-pub not-polling : (s : State) (i : ℕ) → serverAt s i .kind ≢ 3 → lapsesAt s i ≡ false
-not-polling s i n = rw (ne-eqb (serverAt s i .kind) 3 n)
+pub not-polling : (s : State) (i : ℕ) → serverAt s i .kind ≢ pollingKind → lapsesAt s i ≡ false
+not-polling s i n = rw (ne-eqb (serverAt s i .kind) pollingKind n)
 
 pub working : (s : State) (i : ℕ) → somePending (entryAt s i .loads) ≡ true → lapsesAt s i ≡ false
-working s i w = rw (w, both-false (eqb (serverAt s i .kind) 3))
+working s i w = rw (w, both-false (eqb (serverAt s i .kind) pollingKind))
 
 -- AN ARRIVAL changes neither a budget nor the replenishments, nor the table
 pub arrive-budget : (s : State) (i j k : ℕ) → budgetAt (arriveOf s i j .state) k ≡ budgetAt s k

@@ -13,13 +13,13 @@ use Rattle.queue.specs.Row.{eventsOf}
 use Rattle.queue.specs.Steps.{firstCell, dueStep, tickStep, againStep}
 use Rattle.queue.specs.declared.Queue.{Queue}
 use Rattle.table.specs.Limits.{entries}
-use Rattle.table.specs.Table.{zeroServer}
+use Rattle.table.specs.Table.{zeroServer, periodIn}
 use Rattle.table.specs.declared.Server.{Server}
 use Rattle.table.specs.declared.Table.{Table}
 use Rattle.scheduler.specs.State.{withBudget}
 use Rattle.scheduler.specs.Sound.{serverReaches, stateb}
-use Rattle.scheduler.specs.Tick.{dueIds, dueIn, refilled, periodAt, fullAt, refillsTurn, chargedEntries}
-use Rattle.scheduler.specs.Moves.{requeued, Turning, periodIn}
+use Rattle.scheduler.specs.Tick.{dueIds, dueIn, refilled, periodAt, fullAt, refillsTurn}
+use Rattle.scheduler.specs.Moves.{requeued, Turning, chargedEntries}
 use Rattle.scheduler.specs.declared.Entry.{Entry}
 use Rattle.scheduler.specs.declared.State.{State}
 use Rattle.scheduler.proofs.Sizes.{pastEntry}

@@ -24,12 +24,13 @@ use Rattle.queue.proofs.Keeps.{clock-sound, clock-events}
 use Rattle.table.specs.Limits.{entries}
 use Rattle.table.specs.Table.{periodOf, zeroServer}
 use Rattle.table.specs.declared.Server.{Server}
-use Rattle.scheduler.specs.State.{mostPending, load, zeroLoad, zeroEntry, withBudget, serverAt, entryAt, taskAt}
+use Rattle.scheduler.specs.State.{mostPending, load, zeroLoad, zeroEntry, withBudget, serverAt, entryAt, taskAt, loadAt}
 use Rattle.scheduler.specs.Sound.{taskReaches, serverReaches, entryb, entriesb, stateb}
 use Rattle.scheduler.specs.Choice.{firstPending, chosenOf, choiceOf}
 use Rattle.scheduler.specs.Arrive.{arrivalBy, arrivalNumber, lostAfter, loadAfter, withArrival, withLoads, arriveOf}
-use Rattle.scheduler.specs.Tick.{lessWork, charge, clocked, dueIds, dueIn, refilled, fullAt, taskDelay, arrivedLoads, served4, eachEntry, dueEvents, chargedEntries, handledEntries, stateAfter, handledOf}
-use Rattle.scheduler.specs.Meaning.{SizedState, loadAt, arrivalThere, arrivalAway, runsb, dueNext, allDueNext}
+use Rattle.scheduler.specs.Moves.{chargedEntries, handledEntries}
+use Rattle.scheduler.specs.Tick.{lessWork, charge, clocked, dueIds, dueIn, refilled, fullAt, taskDelay, arrivedLoads, served4, eachEntry, dueEvents, stateAfter, handledOf}
+use Rattle.scheduler.specs.Meaning.{SizedState, arrivalThere, arrivalAway, runsb, dueNext, allDueNext}
 use Rattle.scheduler.specs.declared.Load.{Load}
 use Rattle.scheduler.specs.declared.Entry.{Entry}
 use Rattle.scheduler.specs.declared.State.{State}

@@ -19,6 +19,7 @@ use Rattle.queue.specs.Sound.{soundb}
 use Rattle.queue.specs.Steps.{emptyStep, dueStep, fallsStep, nearerStep, tickStep}
 use Rattle.queue.specs.declared.Queue.{Queue}
 use Rattle.queue.proofs.Same.{falls-tick, still-tick}
+use Rattle.table.specs.Kind.{pollingKind}
 use Rattle.table.specs.Limits.{entries}
 use Rattle.table.specs.Table.{zeroServer}
 use Rattle.table.specs.declared.Server.{Server}
@@ -27,8 +28,8 @@ use Rattle.scheduler.specs.State.{zeroLoad, zeroEntry, withBudget, serve
 use Rattle.scheduler.specs.Sound.{entryb, entriesb, stateb}
 use Rattle.scheduler.specs.Choice.{firstPending, readyb, wantsb, chosenOf, choiceBy, choiceOf}
 use Rattle.scheduler.specs.Polling.{lapsed}
-use Rattle.scheduler.specs.Tick.{charge, refilled, dueIn, dueEvents, served4, eachEntry, chargedEntries, handledEntries, stateAfter, handledOf}
-use Rattle.scheduler.specs.Moves.{tabledb, withQueue, servedTurn, givesUpb, PolledBelow}
+use Rattle.scheduler.specs.Tick.{charge, refilled, dueIn, dueEvents, served4, eachEntry, stateAfter, handledOf}
+use Rattle.scheduler.specs.Moves.{tabledb, withQueue, servedTurn, givesUpb, PolledBelow, chargedEntries, handledEntries}
 use Rattle.scheduler.specs.declared.Entry.{Entry}
 use Rattle.scheduler.specs.declared.EntryTurn.{EntryTurn}
 use Rattle.scheduler.specs.declared.State.{State}
@@ -179,7 +180,7 @@ module _ {t : Table} {es₀ es : List Entry} where
     lapse-rest zero p e g v = let q : p ≡ entries = omega arith in rw q at v
     lapse-rest (suc d) p e g v =
         let s = getD-inside (t .servers) p pastServer zeroServer (omega (arith, v .servers)) in
-        let n : eqb (getD (t .servers) p pastServer .kind) 3 ≡ false = rw s (b p g) in
+        let n : eqb (getD (t .servers) p pastServer .kind) pollingKind ≡ false = rw s (b p g) in
         lapse-rest d (p + 1) (omega arith) (omega arith) (lapse-none v (omega arith) (rw n))
 
     pub lapse-end : {p : ℕ} → Lapsing t es₀ es p → c ≤ p → es ≡ eachEntry lapsed (t .servers) es₀

@@ -18,7 +18,7 @@ use Rattle.queue.specs.Limits.{maxGap, longest}
 use Rattle.queue.specs.Holds.{holdsb}
 use Rattle.queue.proofs.DueTimes.{there}
 use Rattle.table.specs.Limits.{mostWork, entries}
-use Rattle.table.specs.Table.{periodOf, zeroTask, zeroServer}
+use Rattle.table.specs.Table.{periodOf, zeroTask, zeroServer, periodIn}
 use Rattle.table.specs.Sound.{rangeb, releaseb, taskb, arrivalb, zeroTaskb, serverb, zeroServerb, tableb}
 use Rattle.table.specs.declared.Release.{Release}
 use Rattle.table.specs.declared.Release.the-variants.{OnArrival, Periodic}
@@ -30,7 +30,8 @@ use Rattle.scheduler.specs.State.{mostPending, mostLost, load, withBudge
 use Rattle.scheduler.specs.Sound.{releaseReach, taskReaches, serverReaches, loadb, zeroLoadb, entryb, spentb, entriesb, allSpentb, stateb}
 use Rattle.scheduler.specs.Choice.{firstPending, chosenOf, choiceOf}
 use Rattle.scheduler.specs.Arrive.{fitsb, lostAfter, loadAfter, withArrival, withLoads, arrivedState, arriveOf}
-use Rattle.scheduler.specs.Tick.{lessWork, charge, dueIn, roomOf, taskDelay, refilled, periodAt, fullAt, refillsTurn, arrivedLoads, arrivalsTurn, served4, eachEntry, allRoomb, chargedEntries, handledEntries, stateAfter, handledOf, againb, tickedWith, tickOf}
+use Rattle.scheduler.specs.Moves.{chargedEntries, handledEntries}
+use Rattle.scheduler.specs.Tick.{lessWork, charge, dueIn, roomOf, taskDelay, refilled, periodAt, fullAt, refillsTurn, arrivedLoads, arrivalsTurn, served4, eachEntry, allRoomb, stateAfter, handledOf, againb, tickedWith, tickOf}
 use Rattle.scheduler.specs.Run.{stateAfterTicks, ticksIn, runOf}
 use Rattle.scheduler.specs.declared.Load.{Load}
 use Rattle.scheduler.specs.declared.Entry.{Entry}
@@ -225,10 +226,6 @@ state-parts s = (
 
 -- THE TABLE
 
--- how far server i's replenishment is put in again
-abbrev pub periodIn : List Server → ℕ → ℕ
-periodIn ss i = getD ss i zeroServer .period .0
-
 module _ (t : Table) (h : tableb longest mostWork t ≡ true) where
   pub table-used : usedb (serverb longest mostWork) zeroServerb (t .servers) (t .count) ≡ true
   unfolding tableb
@@ -242,7 +239,7 @@ module _ (t : Table) (h : tableb longest mostWork t ≡ true) where
   table-few = range-within 1 entries (t .count) .0 (both-left _ _ h) .high
 
   -- a server that has replenishments is in use
-  pub server-delayed : (j : ℕ) → 1 ≤ getD (serverReaches (t .servers)) j 0 → Delayed (periodIn (t .servers)) (serverReaches (t .servers)) j
+  pub server-delayed : (j : ℕ) → 1 ≤ getD (serverReaches (t .servers)) j 0 → Delayed (periodIn t) (serverReaches (t .servers)) j
   server-delayed j r =
       let s = getD (t .servers) j zeroServer in
       let e = server-reach (t .servers) j in

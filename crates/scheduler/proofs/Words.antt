@@ -23,6 +23,7 @@ use Rattle.queue.specs.declared.Queue.{Queue}
 use Rattle.queue.proofs.Soundness.{sound-is}
 use Rattle.queue.proofs.Words.{queue-sound}
 use Rattle.queue.proofs.DueTimes.{there, away}
+use Rattle.table.specs.Kind.{pollingKind}
 use Rattle.table.specs.Limits.{mostWork, entries}
 use Rattle.table.specs.Table.{zeroTask, zeroServer, releaseNumber, periodOf, offsetOf}
 use Rattle.table.specs.Sound.{tableb}
@@ -32,11 +33,11 @@ use Rattle.table.specs.declared.Release.the-variants.{OnArrival, Periodic}
 use Rattle.table.specs.declared.Task.{Task}
 use Rattle.table.specs.declared.Server.{Server}
 use Rattle.table.proofs.Soundness.{table-sound}
-use Rattle.scheduler.specs.State.{mostPending, mostLost, zeroLoad, zeroEntry, serverAt, entryAt, taskAt}
+use Rattle.scheduler.specs.State.{mostPending, mostLost, zeroLoad, zeroEntry, serverAt, entryAt, taskAt, loadAt}
 use Rattle.scheduler.specs.Choice.{pendingb, somePending}
 use Rattle.scheduler.specs.Sound.{releaseReach, taskReaches, serverReaches, loadb, zeroLoadb, entryb, spentb, stateb}
 use Rattle.scheduler.specs.Tick.{periodAt}
-use Rattle.scheduler.specs.Meaning.{SizedState, loadAt, releaseAt, largerAt, PeriodicTask, SoundState}
+use Rattle.scheduler.specs.Meaning.{SizedState, releaseAt, largerAt, PeriodicTask, SoundState}
 use Rattle.scheduler.specs.declared.Load.{Load}
 use Rattle.scheduler.specs.declared.Entry.{Entry}
 use Rattle.scheduler.specs.declared.State.{State}
@@ -183,16 +184,16 @@ module _ (s : State) (t : SoundTable longest mostWork (s .table)) where
 
 -- A BUDGET THAT IS GIVEN UP
 
-spent-words : (s : Server) (e : Entry) → spentb s e ≡ true ↔ (s .kind ≡ 3 → ((j : ℕ) → pendingb (getD (e .loads) j zeroLoad) ≡ false) → e .budget .0 ≡ 0)
-spent-words s e = (forth, back (eqb (s .kind) 3) (somePending (e .loads)) refl refl)
+spent-words : (s : Server) (e : Entry) → spentb s e ≡ true ↔ (s .kind ≡ pollingKind → ((j : ℕ) → pendingb (getD (e .loads) j zeroLoad) ≡ false) → e .budget .0 ≡ 0)
+spent-words s e = (forth, back (eqb (s .kind) pollingKind) (somePending (e .loads)) refl refl)
   where
-    forth : spentb s e ≡ true → s .kind ≡ 3 → ((j : ℕ) → pendingb (getD (e .loads) j zeroLoad) ≡ false) → e .budget .0 ≡ 0
-    forth h k n = eqb-true (e .budget .0) 0 (rw (eq-eqb (s .kind) 3 k, some-none (e .loads) .1 n) at h)
+    forth : spentb s e ≡ true → s .kind ≡ pollingKind → ((j : ℕ) → pendingb (getD (e .loads) j zeroLoad) ≡ false) → e .budget .0 ≡ 0
+    forth h k n = eqb-true (e .budget .0) 0 (rw (eq-eqb (s .kind) pollingKind k, some-none (e .loads) .1 n) at h)
 
-    back : (a b : Bool) → eqb (s .kind) 3 ≡ a → somePending (e .loads) ≡ b
-        → (s .kind ≡ 3 → ((j : ℕ) → pendingb (getD (e .loads) j zeroLoad) ≡ false) → e .budget .0 ≡ 0) → pick (both a (not b)) (eqb (e .budget .0) 0) true ≡ true
+    back : (a b : Bool) → eqb (s .kind) pollingKind ≡ a → somePending (e .loads) ≡ b
+        → (s .kind ≡ pollingKind → ((j : ℕ) → pendingb (getD (e .loads) j zeroLoad) ≡ false) → e .budget .0 ≡ 0) → pick (both a (not b)) (eqb (e .budget .0) 0) true ≡ true
     back true true p q h = refl
-    back true false p q h = eq-eqb (e .budget .0) 0 (h (eqb-true (s .kind) 3 p) (some-none (e .loads) .0 q))
+    back true false p q h = eq-eqb (e .budget .0) 0 (h (eqb-true (s .kind) pollingKind p) (some-none (e .loads) .0 q))
     back false b p q h = refl
 
 -- THE STATE

@@ -3,13 +3,12 @@ use mathlib.Core.Bool.{Bool, true, false, not}
 use mathlib.Core.List.{List, [], _∷_}
 use Prim.Native.Nat.{ℕ, _+_}
 use lib.Dec.{leb, ltb, eqb}
-use lib.ListN.{getD}
 use Rattle.small.specs.Small.{pick, alter}
 use Rattle.refusal.specs.Numbers.{unsound, noServer, noTask, taskPeriodic}
 use Rattle.refusal.specs.Refusal.{none, Check, check, firstOf}
 use Rattle.refusal.specs.declared.Refusal.{Refusal}
 use Rattle.table.specs.Table.{releaseNumber}
-use Rattle.scheduler.specs.State.{mostPending, mostLost, load, zeroLoad, serverAt, entryAt, taskAt}
+use Rattle.scheduler.specs.State.{mostPending, mostLost, load, serverAt, taskAt, loadAt}
 use Rattle.scheduler.specs.Sound.{stateb}
 use Rattle.scheduler.specs.declared.Load.{Load}
 use Rattle.scheduler.specs.declared.Entry.{Entry}
@@ -70,5 +69,5 @@ unfoldable pub arriveOf : State → ℕ → ℕ → Arrived
 arriveOf s i j =
     let r = firstOf (arriveChecks s i j) in
     pick (eqb (r .number) 0)
-    (arrivedWith none (arrivalBy (fitsb (taskAt (serverAt s i) j .work .0) (getD (entryAt s i .loads) j zeroLoad))) (arrivedState s i j))
+    (arrivedWith none (arrivalBy (fitsb (taskAt (serverAt s i) j .work .0) (loadAt s i j))) (arrivedState s i j))
     (arrivedWith r Accepted s)

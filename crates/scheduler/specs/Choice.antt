@@ -4,6 +4,7 @@ use mathlib.Core.List.{List, [], _∷_}
 use Prim.Native.Nat.{ℕ, suc}
 use lib.Dec.{ltb, eqb}
 use Rattle.small.specs.Small.{pick, both}
+use Rattle.table.specs.Kind.{idlingKind, deferrableKind, pollingKind}
 use Rattle.table.specs.Limits.{entries}
 use Rattle.table.specs.declared.Server.{Server}
 use Rattle.scheduler.specs.State.{entryAt}
@@ -26,10 +27,14 @@ abbrev pub somePending : List Load → Bool
 somePending [] = false
 somePending (l ∷ ls) = pick (pendingb l) true (somePending ls)
 
+-- deferrable or polling: such a server wants a tick where work is pending, and no other
+abbrev pub worksb : ℕ → Bool
+worksb kind = pick (eqb kind deferrableKind) true (eqb kind pollingKind)
+
 -- "A server wants a tick if it is idling (kind 1), or deferrable (kind 2) with work pending in some task"; "Kind 3 wants a tick as kind 2 does" (document
 -- 02, #101)
 unfoldable pub wantsb : ℕ → Entry → Bool
-wantsb kind e = pick (eqb kind 1) true (both (pick (eqb kind 2) true (eqb kind 3)) (somePending (e .loads)))
+wantsb kind e = pick (eqb kind idlingKind) true (both (worksb kind) (somePending (e .loads)))
 
 -- it wants and has budget
 abbrev pub readyb : ℕ → Entry → Bool

@@ -2,16 +2,17 @@
 use mathlib.Core.Path.{_≡_}
 use mathlib.Core.List.{List, [], _∷_}
 use Prim.Native.Nat.{ℕ}
-use lib.ListN.{length, getD}
+use lib.ListN.{length}
 use Rattle.small.specs.Small.{padded, alter}
 use Rattle.queue.specs.Edge.{QueueEdge}
+use Rattle.table.specs.Kind.{idlingKind, deferrableKind}
 use Rattle.table.specs.Limits.{entries}
 use Rattle.table.specs.Table.{ticks, served, zeroTask, zeroServer}
 use Rattle.table.specs.declared.Release.the-variants.{OnArrival, Periodic}
 use Rattle.table.specs.declared.Task.{Task}
 use Rattle.table.specs.declared.Server.{Server}
 use Rattle.table.specs.declared.Table.{Table}
-use Rattle.scheduler.specs.State.{load, zeroLoad, entryAt}
+use Rattle.scheduler.specs.State.{load, zeroLoad, loadAt}
 use Rattle.scheduler.specs.Arrive.{withLoads, withEntries, arriveOf}
 use Rattle.scheduler.specs.Run.{answer, answersOf}
 use Rattle.scheduler.specs.Fresh.{freshOf}
@@ -37,7 +38,7 @@ setup ss = record { servers = padded zeroServer entries ss; count = length ss }
 
 -- "server 0 deferrable, P 4, C 2, one task on arrival, E 3; server 1 idling, P 5, C 2, one periodic task, E 1, T 5, O 0"
 abbrev pub example : Table
-example = setup (server 2 4 2 (onArrival 3 ∷ []) ∷ server 1 5 2 (periodic 1 5 0 ∷ []) ∷ [])
+example = setup (server deferrableKind 4 2 (onArrival 3 ∷ []) ∷ server idlingKind 5 2 (periodic 1 5 0 ∷ []) ∷ [])
 
 -- "arrival (0, 0)"
 abbrev pub exampleBegun : State
@@ -45,17 +46,17 @@ exampleBegun = arriveOf (freshOf example .state) 0 0 .state
 
 -- "one idling server, no tasks, P 2, C 2"
 abbrev pub idling : State
-idling = freshOf (setup (server 1 2 2 [] ∷ [])) .state
+idling = freshOf (setup (server idlingKind 2 2 [] ∷ [])) .state
 
 -- one task on arrival, with its work E and 999,999 of it pending
 abbrev pub nearlyFull : ℕ → State
 nearlyFull E =
-    let s = freshOf (setup (server 2 4 2 (onArrival E ∷ []) ∷ [])) .state in
+    let s = freshOf (setup (server deferrableKind 4 2 (onArrival E ∷ []) ∷ [])) .state in
     withEntries (alter (withLoads (padded zeroLoad entries (load 999999 0 ∷ []))) (s .entries) 0) s
 
 -- the load of server 0's task 0
 abbrev pub firstLoad : State → Load
-firstLoad s = getD (entryAt s 0 .loads) 0 zeroLoad
+firstLoad s = loadAt s 0 0
 
 pub record SchedulerEdge : Type 0 where
   -- the queue's points

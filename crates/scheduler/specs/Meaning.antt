@@ -5,22 +5,22 @@ use mathlib.Core.List.{List, [], _∷_}
 use mathlib.Core.Logic.{_↔_}
 use Prim.Native.Nat.{ℕ, _+_, _-_, _≤_, _<_, max}
 use lib.Dec.{eqb}
-use lib.ListN.{length, getD}
+use lib.ListN.{length}
 use Rattle.small.specs.Small.{pick, both}
 use Rattle.queue.specs.Limits.{maxGap, longest}
 use Rattle.queue.specs.Row.{Event, eventsOf}
 use Rattle.queue.specs.Sound.{hasb}
 use Rattle.queue.specs.Meaning.{SoundQueue}
 use Rattle.queue.specs.Calls.{distanceOf}
+use Rattle.table.specs.Kind.{idlingKind, pollingKind}
 use Rattle.table.specs.Limits.{mostWork, entries}
 use Rattle.table.specs.Table.{releaseNumber, periodOf, offsetOf}
 use Rattle.table.specs.Meaning.{Within, SoundTable, Sized}
 use Rattle.table.specs.declared.Release.{Release}
-use Rattle.scheduler.specs.State.{mostPending, mostLost, zeroLoad, zeroEntry, serverAt, entryAt, taskAt}
+use Rattle.scheduler.specs.State.{mostPending, mostLost, zeroLoad, zeroEntry, serverAt, entryAt, taskAt, loadAt}
 use Rattle.scheduler.specs.Choice.{pendingb, readyb, choiceOf, servesb}
 use Rattle.scheduler.specs.Polling.{lapsesb}
 use Rattle.scheduler.specs.Tick.{periodAt, fullAt}
-use Rattle.scheduler.specs.declared.Load.{Load}
 use Rattle.scheduler.specs.declared.Entry.{Entry}
 use Rattle.scheduler.specs.declared.State.{State}
 use Rattle.scheduler.specs.declared.Choice.{Choice}
@@ -36,10 +36,7 @@ pub record SizedState (s : State) : Type 0 where
 abbrev pub readyAt : State → ℕ → Bool
 readyAt s i = readyb (serverAt s i .kind) (entryAt s i)
 
--- the load of task j of server i; whether it has work pending; whether it has an arrival of its own, and how far that is away
-
-abbrev pub loadAt : State → ℕ → ℕ → Load
-loadAt s i j = getD (entryAt s i .loads) j zeroLoad
+-- whether task j of server i has work pending; whether it has an arrival of its own, and how far that is away
 
 abbrev pub pendingAt : State → ℕ → ℕ → Bool
 pendingAt s i j = pendingb (loadAt s i j)
@@ -101,7 +98,7 @@ pub record SoundState (s : State) : Type 0 where
   pub refills-away : (i : ℕ) → i < s .table .count → Within 1 (periodAt s i) (refillAway s i)
   pub arrivals-away : (i j : ℕ) → PeriodicTask s i j → Within 1 (largerAt s i j) (arrivalAway s i j)
   -- "In a sound state a polling server with no pending work has budget 0." (document 02, #101)
-  pub polling : (i : ℕ) → i < s .table .count → serverAt s i .kind ≡ 3 → ((j : ℕ) → pendingAt s i j ≡ false) → budgetAt s i ≡ 0
+  pub polling : (i : ℕ) → i < s .table .count → serverAt s i .kind ≡ pollingKind → ((j : ℕ) → pendingAt s i j ≡ false) → budgetAt s i ≡ 0
 
 -- the tick serves task j of server i
 abbrev pub runsb : Choice → ℕ → ℕ → Bool
@@ -123,7 +120,7 @@ pub record FirstTask (s : State) (k j : ℕ) : Type 0 where
 
 -- "An idling server without work"
 pub record WithoutWork (s : State) (k : ℕ) : Type 0 where
-  pub idling : serverAt s k .kind ≡ 1
+  pub idling : serverAt s k .kind ≡ idlingKind
   pub none : (j : ℕ) → pendingAt s k j ≡ false
 
 -- "The highest server that wants and has budget is chosen; none: idle. In it, the first task with pending work is chosen. An idling server without work

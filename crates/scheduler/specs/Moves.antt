@@ -5,21 +5,23 @@ use mathlib.Core.List.{List, [], _∷_}
 use Prim.Native.Nat.{ℕ, _≤_, _<_}
 use lib.Dec.{leb, ltb, eqb}
 use lib.ListN.{length, getD}
-use Rattle.small.specs.Small.{both}
+use Rattle.small.specs.Small.{both, alter}
 use Rattle.queue.specs.Limits.{maxGap, longest}
 use Rattle.queue.specs.Row.{Event, eventsOf}
 use Rattle.queue.specs.Sound.{soundb}
 use Rattle.queue.specs.Steps.{firstCell, dueStep, againStep}
 use Rattle.queue.specs.declared.Queue.{Queue}
+use Rattle.table.specs.Kind.{pollingKind}
 use Rattle.table.specs.Limits.{mostWork, entries}
 use Rattle.table.specs.Table.{zeroServer}
 use Rattle.table.specs.Sound.{tasksb}
 use Rattle.table.specs.declared.Server.{Server}
-use Rattle.table.specs.declared.Table.{Table}
+use Rattle.scheduler.specs.declared.State.{State}
+use Rattle.scheduler.specs.Choice.{chosenOf}
 use Rattle.scheduler.specs.State.{mostPending, taskAt}
 use Rattle.scheduler.specs.Polling.{lapsesb}
 use Rattle.scheduler.specs.Arrive.{withArrival}
-use Rattle.scheduler.specs.Tick.{dueIds, dueIn, again, taskDelay, arrivedLoads, served4}
+use Rattle.scheduler.specs.Tick.{dueIds, dueIn, again, taskDelay, arrivedLoads, served4, charge, refilled, fullAt, eachEntry}
 use Rattle.scheduler.specs.declared.Load.{Load}
 use Rattle.scheduler.specs.declared.Entry.{Entry}
 use Rattle.scheduler.specs.declared.EntryTurn.{EntryTurn}
@@ -90,7 +92,14 @@ givesUpb kind e = both (lapsesb kind e) (ltb 0 (e .budget .0))
 
 -- no server from place n on is polling; past the end there is none
 abbrev pub PolledBelow : List Server → ℕ → Type 0
-PolledBelow ss n = (i : ℕ) → n ≤ i → eqb (getD ss i zeroServer .kind) 3 ≡ false
+PolledBelow ss n = (i : ℕ) → n ≤ i → eqb (getD ss i zeroServer .kind) pollingKind ≡ false
 
-abbrev pub periodIn : Table → ℕ → ℕ
-periodIn t i = getD (t .servers) i zeroServer .period .0
+-- THE TICK, where it is taken apart
+
+-- the entries after step 3
+abbrev pub chargedEntries : State → List Entry
+chargedEntries s = alter charge (s .entries) (chosenOf s)
+
+-- the entries after step 4
+abbrev pub handledEntries : State → List Entry
+handledEntries s = eachEntry served4 (s .table .servers) (refilled (fullAt s) (dueIn (s .refills)) (chargedEntries s))

@@ -3,14 +3,14 @@ use mathlib.Core.Bool.{Bool, not}
 use Prim.Native.Nat.{ℕ}
 use lib.Dec.{eqb}
 use Rattle.small.specs.Small.{pick, both}
+use Rattle.table.specs.Kind.{pollingKind}
 use Rattle.table.specs.declared.Server.{Server}
 use Rattle.scheduler.specs.State.{withBudget}
 use Rattle.scheduler.specs.Choice.{somePending}
 use Rattle.scheduler.specs.declared.Entry.{Entry}
 
--- polling is kind 3
 abbrev pub pollsb : ℕ → Bool
-pollsb kind = eqb kind 3
+pollsb kind = eqb kind pollingKind
 
 -- "a polling server with no pending work"
 abbrev pub lapsesb : ℕ → Entry → Bool

@@ -5,6 +5,7 @@ use mathlib.Core.List.{List, [], _∷_}
 use Prim.Native.Nat.{ℕ, zero, suc}
 use Rattle.small.specs.Small.{alter}
 use Rattle.refusal.specs.Numbers.{unsound}
+use Rattle.table.specs.Kind.{idlingKind, pollingKind}
 use Rattle.scheduler.specs.State.{withBudget}
 use Rattle.scheduler.specs.Sound.{stateb}
 use Rattle.scheduler.specs.Arrive.{withEntries, arriveOf}
@@ -23,15 +24,15 @@ budgetsOf (suc n) s = budgetAt (tickOf s .state) 0 ∷ budgetsOf n (tickOf s .st
 
 -- document 01's example with server 0 polling: P 4, C 2, one task on arrival, E 3; server 1 idling, P 5, C 2, one periodic task, E 1, T 5, O 0
 abbrev pub polled : State
-polled = freshOf (setup (server 3 4 2 (onArrival 3 ∷ []) ∷ server 1 5 2 (periodic 1 5 0 ∷ []) ∷ [])) .state
+polled = freshOf (setup (server pollingKind 4 2 (onArrival 3 ∷ []) ∷ server idlingKind 5 2 (periodic 1 5 0 ∷ []) ∷ [])) .state
 
 -- one polling server, P 4, C 2, one periodic task, E 1, T 4, with its offset
 abbrev pub pollsAt : ℕ → State
-pollsAt O = freshOf (setup (server 3 4 2 (periodic 1 4 O ∷ []) ∷ [])) .state
+pollsAt O = freshOf (setup (server pollingKind 4 2 (periodic 1 4 O ∷ []) ∷ [])) .state
 
 -- one polling server, P 5, C 3, one task on arrival, E 2
 abbrev pub called : State
-called = freshOf (setup (server 3 5 3 (onArrival 2 ∷ []) ∷ [])) .state
+called = freshOf (setup (server pollingKind 5 3 (onArrival 2 ∷ []) ∷ [])) .state
 
 -- two ticks of it, and then its arrival
 abbrev pub calledLate : State
@@ -39,11 +40,11 @@ calledLate = arriveOf (stateAfterTicks 2 called) 0 0 .state
 
 -- one polling server, P 6, C 4, one periodic task, E 2, T 2, O 0
 abbrev pub busy : State
-busy = freshOf (setup (server 3 6 4 (periodic 2 2 0 ∷ []) ∷ [])) .state
+busy = freshOf (setup (server pollingKind 6 4 (periodic 2 2 0 ∷ []) ∷ [])) .state
 
 -- one polling server, P 4, C 3, a periodic task, E 1, T 8, O 0, and a task on arrival, E 1, whose arrival comes first
 abbrev pub two : State
-two = arriveOf (freshOf (setup (server 3 4 3 (periodic 1 8 0 ∷ onArrival 1 ∷ []) ∷ [])) .state) 0 1 .state
+two = arriveOf (freshOf (setup (server pollingKind 4 3 (periodic 1 8 0 ∷ onArrival 1 ∷ []) ∷ [])) .state) 0 1 .state
 
 -- a state in which server 0 has another budget
 abbrev pub funded : ℕ → State → State

@@ -34,7 +34,7 @@ zeroEntry = record { loads = replicate entries zeroLoad; arrivals = queueOf []; 
 abbrev pub withBudget : ℕ → Entry → Entry
 withBudget n e = record { loads = e .loads; arrivals = e .arrivals; budget = served n }
 
--- the server and the entry at a place of the table, and a server's task at a place
+-- the server and the entry at a place of the table, a server's task at a place, and the load of task j of server i
 
 abbrev pub serverAt : State → ℕ → Server
 serverAt s i = getD (s .table .servers) i zeroServer
@@ -44,3 +44,6 @@ entryAt s i = getD (s .entries) i zeroEntry
 
 abbrev pub taskAt : Server → ℕ → Task
 taskAt s j = getD (s .tasks) j zeroTask
+
+abbrev pub loadAt : State → ℕ → ℕ → Load
+loadAt s i j = getD (entryAt s i .loads) j zeroLoad

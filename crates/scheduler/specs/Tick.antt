@@ -123,21 +123,22 @@ dueEvents (e ∷ es) = length (dueIn (e .arrivals)) + dueEvents es
 
 -- THE TICK
 
--- the entries after step 3
-abbrev pub chargedEntries : State → List Entry
-chargedEntries s = alter charge (s .entries) (chosenOf s)
-
--- the entries after step 4
-abbrev pub handledEntries : State → List Entry
-handledEntries s = eachEntry served4 (s .table .servers) (refilled (fullAt s) (dueIn (s .refills)) (chargedEntries s))
-
--- "at the end of every tick after all events are handled" a polling server with no pending work gives its budget up (document 02, #101)
+-- A tick of a sound state, step by step
 unfoldable pub stateAfter : State → State
-stateAfter s = record {
-  entries = eachEntry lapsed (s .table .servers) (handledEntries s);
-  table = s .table;
-  refills = refillsTurn s;
-}
+stateAfter s =
+    -- 1, 2: "The highest server that wants and has budget is chosen"; "In it, the first task with pending work is chosen."
+    let chosen = chosenOf s in
+    -- 3: "The server's budget and the chosen task's work fall by 1."
+    let charged = alter charge (s .entries) chosen in
+    -- 4: "All queues are clocked. Due replenishments set the budget to C and are put in again P away."
+    let due = dueIn (s .refills) in
+    let full = refilled (fullAt s) due charged in
+    let refills = refillsTurn s in
+    -- "Then due task arrivals, by server rank, add E and go in again T away."
+    let handled = eachEntry served4 (s .table .servers) full in
+    -- "at the end of every tick after all events are handled" a polling server with no pending work gives its budget up (document 02, #101)
+    let left = eachEntry lapsed (s .table .servers) handled in
+    record { entries = left; table = s .table; refills = refills }
 
 -- "how many events it handled: replenishments and arrivals, lost ones included. That count equals the events due in step 4."
 unfoldable pub handledOf : State → ℕ

@@ -22,7 +22,7 @@ ghost use Rattle.table.specs.Table.{releaseNumber, periodOf};
 ghost use Rattle.table.specs.Sound.{tableb};
 ghost use Rattle.scheduler.specs.State.{mostPending, zeroLoad, zeroEntry, withBudget};
 ghost use Rattle.scheduler.specs.Sound.{releaseReach, taskReaches, serverReaches, loadb, zeroLoadb, entryb, allSpentb, stateb};
-ghost use Rattle.scheduler.specs.Choice.{pendingb, firstPending, wantsb, readyb, chosenFrom, choiceBy};
+ghost use Rattle.scheduler.specs.Choice.{pendingb, firstPending, worksb, wantsb, readyb, chosenFrom, choiceBy};
 ghost use Rattle.scheduler.specs.Arrive.{fitsb, loadAfter, arrivalBy, arrivedWith, arriveOf};
 ghost use Rattle.scheduler.specs.Tick.{charge, tickOf};
 ghost use Rattle.scheduler.specs.Run.{batchSize, answersOf, stateAfterTicks, batchWith, runOf};
@@ -256,7 +256,7 @@ fn first_pending(e: Entry) -> usize
 
 // Whether a server of this kind wants a tick where work is pending, and no other tick.
 fn serves_work(kind: u8) -> bool
-    ensures { λ r. ⌜ r ≡ pick (eqb kind 2) true (eqb kind 3) ⌝ }
+    ensures { λ r. ⌜ r ≡ worksb kind ⌝ }
 {
     if kind == Server::DEFERRABLE {
         return true;

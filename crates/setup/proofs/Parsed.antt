@@ -3,7 +3,7 @@
 use mathlib.Core.Path.{_≡_, refl, sym, ap, subst, _∙_}
 use mathlib.Core.Bool.{Bool, true, false, not}
 use mathlib.Core.List.{List, [], _∷_, _++_, append-assoc}
-use mathlib.Core.Logic.{_⊎_, inl, inr}
+use mathlib.Core.Logic.{inl, inr}
 use Prim.Native.Nat.{ℕ, zero, suc, _+_, _*_, _^_, _≤_, _<_}
 use native.Mathlib.Omega.{arith}
 use lib.Dec.{leb, ltb, eqb}
@@ -22,7 +22,7 @@ use Rattle.field.proofs.Fields.{field-big, big-field, big-bytes, bytes-append, 
 use Rattle.table.specs.Limits.{entries}
 use Rattle.table.specs.Table.{ticks, releaseNumber, periodOf, offsetOf, zeroTask}
 use Rattle.table.specs.Sound.{rangeb}
-use Rattle.table.specs.Meaning.{Within, SoundRelease, SoundTask, SoundServer}
+use Rattle.table.specs.Meaning.{Within, SoundRelease, SoundTask, SoundServer, KnownKind}
 use Rattle.table.specs.declared.Release.{Release}
 use Rattle.table.specs.declared.Release.the-variants.{OnArrival, Periodic}
 use Rattle.table.specs.declared.Task.{Task}
@@ -233,7 +233,7 @@ head-passes D W k s bs i h = (
 -- what a head that passes says of the bytes
 record HeadPassed (D : ℕ) (bs : List ℕ) : Type 0 where
   whole : headSize ≤ length bs
-  kind : (byteOf 0 bs ≡ 1) ⊎ ((byteOf 0 bs ≡ 2) ⊎ (byteOf 0 bs ≡ 3))
+  kind : KnownKind (byteOf 0 bs)
   count : byteOf 1 bs ≤ entries
   period : Within 1 D (fieldOf 4 (drop 2 bs))
   budget : Within 1 (fieldOf 4 (drop 2 bs)) (fieldOf 4 (drop 6 bs))
@@ -435,7 +435,7 @@ task-all-bytes t =
     let O = offsetOf (t .release) in
     (number-byte (t .release), bytes-append (big 4 (t .work .0)) (big 4 T ++ big 4 O) (big-bytes 4 (t .work .0)) (fields-bytes T O))
 
-kind-byte : (k : ℕ) → (k ≡ 1) ⊎ ((k ≡ 2) ⊎ (k ≡ 3)) → k < 256
+kind-byte : (k : ℕ) → KnownKind k → k < 256
 kind-byte k (inl e) = omega arith
 kind-byte k (inr (inl e)) = omega arith
 kind-byte k (inr (inr e)) = omega arith

@@ -9,7 +9,7 @@ use lib.ListN.{length, drop}
 use Rattle.refusal.specs.Refusal.{refused, Check}
 use Rattle.field.specs.Field.{byteOf, fieldOf}
 use Rattle.table.specs.Limits.{entries}
-use Rattle.table.specs.Meaning.{Within}
+use Rattle.table.specs.Meaning.{Within, KnownKind}
 use Rattle.setup.specs.Read.{taskSize, taskChecks, headSize, headChecks, readOf}
 
 -- THE START: "total length (2 bytes), version 1, number of servers"
@@ -60,7 +60,7 @@ module _ (bs : List ℕ) (k : ℕ) where
 
   -- "Setup code 6 now allows 3." (document 02, #101)
   abbrev pub KindKnown : Type 0
-  KindKnown = (byteOf k bs ≡ 1) ⊎ ((byteOf k bs ≡ 2) ⊎ (byteOf k bs ≡ 3))
+  KindKnown = KnownKind (byteOf k bs)
 
   abbrev pub TasksFew : Type 0
   TasksFew = byteOf (k + 1) bs ≤ entries

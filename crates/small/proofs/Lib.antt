@@ -10,3 +10,4 @@ pub mod Altered
 pub mod Used
 pub mod Each
 pub mod Sums
+pub mod Tallies

@@ -1,8 +1,8 @@
 -- Reads and stores of a list: what stands past its end, one element more, a list built by stores, and one replaced place by place. Over any elements. Assumes
 -- nothing.
-use mathlib.Core.Path.{_≡_, refl, sym, _∙_}
+use mathlib.Core.Path.{_≡_, refl, sym, ap, _∙_}
 use mathlib.Core.Bool.{Bool, true, false}
-use mathlib.Core.List.{List, [], _∷_, _++_, append-nil, append-assoc}
+use mathlib.Core.List.{List, [], _∷_, _++_, map, append-nil, append-assoc}
 use Prim.Native.Nat.{ℕ, zero, suc, _+_, _≤_, _<_}
 use native.Mathlib.Numerals.{add-one}
 use native.Mathlib.Omega.{arith}
@@ -48,6 +48,16 @@ replicate-default (suc n) zero d = refl
 replicate-default (suc n) (suc i) d = replicate-default n i d
 
 -- A PART
+
+pub map-drop : {A B : Type 0} (f : A → B) (b : ℕ) (xs : List A) → drop b (map f xs) ≡ map f (drop b xs)
+map-drop f zero xs = refl
+map-drop f (suc b) [] = refl
+map-drop f (suc b) (x ∷ xs) = map-drop f b xs
+
+pub map-less : {A B : Type 0} (f : A → B) (p : ℕ) (xs : List A) → map f (take p (take (suc p) xs)) ≡ take p (map f xs)
+map-less f zero xs = refl
+map-less f (suc p) [] = refl
+map-less f (suc p) (x ∷ xs) = ap (λ ys. f x ∷ ys) (map-less f p xs)
 
 pub take-next : {A : Type 0} (n m at : ℕ) (xs : List A) → take (n + m) (drop at xs) ≡ take n (drop at xs) ++ take m (drop (at + n) xs)
 take-next n m at xs = take-add n m (drop at xs) ∙ rw drop-drop

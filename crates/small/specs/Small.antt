@@ -38,3 +38,12 @@ each f (x ∷ xs) = f x ++ each f xs
 unfoldable pub sumBelow : (ℕ → ℕ) → ℕ → ℕ
 sumBelow f zero = 0
 sumBelow f (suc n) = sumBelow f n + f n
+
+-- 1 where the test holds
+abbrev pub num : Bool → ℕ
+num b = pick b 1 0
+
+-- how many of these pass a test
+unfoldable pub tally : {A : Type 0} → (A → Bool) → List A → ℕ
+tally p [] = 0
+tally p (x ∷ xs) = num (p x) + tally p xs

@@ -1,7 +1,7 @@
 -- What the tests of a table say, in the words of specs/Meaning.antt, over any longest distance D and any most work W. Assumes nothing.
 use mathlib.Core.Path.{_≡_, refl, sym, ap, _∙_}
 use mathlib.Core.Bool.{Bool, true, false}
-use mathlib.Core.Logic.{_↔_, _⊎_, inl, inr}
+use mathlib.Core.Logic.{_↔_, inl, inr}
 use Prim.Native.Nat.{ℕ, _≤_}
 use native.Mathlib.Omega.{arith}
 use lib.Dec.{leb, eqb}
@@ -11,10 +11,11 @@ use borrow.Author.Tests.{leb-true, eqb-true, le-leb}
 use Rattle.small.specs.Small.{pick}
 use Rattle.small.proofs.Tests.{both-left, both-right}
 use Rattle.small.proofs.Used.{Each, each-from, each-to}
+use Rattle.table.specs.Kind.{idlingKind, deferrableKind, pollingKind}
 use Rattle.table.specs.Limits.{entries}
 use Rattle.table.specs.Table.{zeroTask, zeroServer}
 use Rattle.table.specs.Sound.{rangeb, releaseb, taskb, arrivalb, zeroTaskb, kindb, serverb, zeroServerb, tableb}
-use Rattle.table.specs.Meaning.{Within, SoundRelease, SoundTask, SoundServer, SoundTable, Sized}
+use Rattle.table.specs.Meaning.{KnownKind, Within, SoundRelease, SoundTask, SoundServer, SoundTable, Sized}
 use Rattle.table.specs.declared.Release.{Release}
 use Rattle.table.specs.declared.Release.the-variants.{OnArrival, Periodic}
 use Rattle.table.specs.declared.Task.{Task}
@@ -29,15 +30,15 @@ range-within least most x = (
   λ w. rw (le-leb least x (w .low), le-leb x most (w .high)),
 )
 
-pub kind-known : (k : ℕ) → kindb k ≡ true ↔ ((k ≡ 1) ⊎ ((k ≡ 2) ⊎ (k ≡ 3)))
-kind-known k = (forth (eqb k 1) (eqb k 2) refl refl, back)
+pub kind-known : (k : ℕ) → kindb k ≡ true ↔ KnownKind k
+kind-known k = (forth (eqb k idlingKind) (eqb k deferrableKind) refl refl, back)
   where
-    forth : (a b : Bool) → eqb k 1 ≡ a → eqb k 2 ≡ b → pick a true (pick b true (eqb k 3)) ≡ true → (k ≡ 1) ⊎ ((k ≡ 2) ⊎ (k ≡ 3))
-    forth true b p q h = inl (eqb-true k 1 p)
-    forth false true p q h = inr (inl (eqb-true k 2 q))
-    forth false false p q h = inr (inr (eqb-true k 3 h))
+    forth : (a b : Bool) → eqb k idlingKind ≡ a → eqb k deferrableKind ≡ b → pick a true (pick b true (eqb k pollingKind)) ≡ true → KnownKind k
+    forth true b p q h = inl (eqb-true k idlingKind p)
+    forth false true p q h = inr (inl (eqb-true k deferrableKind q))
+    forth false false p q h = inr (inr (eqb-true k pollingKind h))
 
-    back : (k ≡ 1) ⊎ ((k ≡ 2) ⊎ (k ≡ 3)) → kindb k ≡ true
+    back : KnownKind k → kindb k ≡ true
     back (inl e) = rw e
     back (inr (inl e)) = rw e
     back (inr (inr e)) = rw e

@@ -1,4 +1,5 @@
 pub mod Limits
+pub mod Kind
 pub mod Table
 pub mod Sound
 pub mod Meaning

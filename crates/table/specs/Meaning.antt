@@ -5,6 +5,7 @@ use mathlib.Core.Logic.{_⊎_}
 use Prim.Native.Nat.{ℕ, _≤_, _<_}
 use lib.ListN.{length, getD}
 use Rattle.queue.specs.declared.Distance.{Distance}
+use Rattle.table.specs.Kind.{idlingKind, deferrableKind, pollingKind}
 use Rattle.table.specs.Limits.{entries}
 use Rattle.table.specs.Table.{zeroTask, zeroServer}
 use Rattle.table.specs.declared.Release.{Release}
@@ -33,10 +34,13 @@ pub record SoundTask (D W : ℕ) (t : Task) : Type 0 where
   pub work : Within 1 W (t .work .0)
   pub release : SoundRelease D (t .release)
 
--- "A server has a kind, a period P (1 to 1,000,000), a budget C (1 to P) and 0 to 8 tasks"; "idling (kind 1), or deferrable (kind 2)". Kind 3 is
--- polling: "Setup code 6 now allows 3." (document 02, #101)
+-- "idling (kind 1), or deferrable (kind 2)"; kind 3 is polling: "Setup code 6 now allows 3." (document 02, #101)
+abbrev pub KnownKind : ℕ → Type 0
+KnownKind k = (k ≡ idlingKind) ⊎ ((k ≡ deferrableKind) ⊎ (k ≡ pollingKind))
+
+-- "A server has a kind, a period P (1 to 1,000,000), a budget C (1 to P) and 0 to 8 tasks"
 pub record SoundServer (D W : ℕ) (s : Server) : Type 0 where
-  pub kind : (s .kind ≡ 1) ⊎ ((s .kind ≡ 2) ⊎ (s .kind ≡ 3))
+  pub kind : KnownKind (s .kind)
   pub period : Within 1 D (s .period .0)
   pub budget : Within 1 (s .period .0) (s .budget .0)
   pub count : s .count ≤ entries

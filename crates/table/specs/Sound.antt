@@ -3,6 +3,7 @@ use mathlib.Core.Bool.{Bool, true, false}
 use Prim.Native.Nat.{ℕ}
 use lib.Dec.{leb, eqb}
 use Rattle.small.specs.Small.{pick, both, usedb}
+use Rattle.table.specs.Kind.{idlingKind, deferrableKind, pollingKind}
 use Rattle.table.specs.Limits.{entries}
 use Rattle.table.specs.declared.Release.{Release}
 use Rattle.table.specs.declared.Release.the-variants.{OnArrival, Periodic}
@@ -34,7 +35,7 @@ tasksb D W s = usedb (taskb D W) zeroTaskb (s .tasks) (s .count)
 
 -- idling (kind 1), deferrable (kind 2) or polling (kind 3): "Setup code 6 now allows 3." (document 02, #101)
 abbrev pub kindb : ℕ → Bool
-kindb k = pick (eqb k 1) true (pick (eqb k 2) true (eqb k 3))
+kindb k = pick (eqb k idlingKind) true (pick (eqb k deferrableKind) true (eqb k pollingKind))
 
 -- "a kind, a period P (1 to 1,000,000), a budget C (1 to P) and 0 to 8 tasks"
 abbrev pub serverb : ℕ → ℕ → Server → Bool

@@ -1,6 +1,6 @@
 -- The table's parts: what each case of a release is in the document's numbers, and what an unused entry holds.
 use Prim.Native.Nat.{ℕ}
-use lib.ListN.{replicate}
+use lib.ListN.{replicate, getD}
 use Rattle.queue.specs.declared.Distance.{Distance}
 use Rattle.table.specs.Limits.{entries}
 use Rattle.table.specs.declared.Served.{Served}
@@ -39,3 +39,14 @@ zeroServer = record { tasks = replicate entries zeroTask; count = 0; kind = 0; p
 
 abbrev pub zeroTable : Table
 zeroTable = record { servers = replicate entries zeroServer; count = 0 }
+
+-- server i's kind, its period P and its budget C; past the end those of an unused entry, 0
+
+abbrev pub kindIn : Table → ℕ → ℕ
+kindIn t i = getD (t .servers) i zeroServer .kind
+
+abbrev pub periodIn : Table → ℕ → ℕ
+periodIn t i = getD (t .servers) i zeroServer .period .0
+
+abbrev pub budgetIn : Table → ℕ → ℕ
+budgetIn t i = getD (t .servers) i zeroServer .budget .0

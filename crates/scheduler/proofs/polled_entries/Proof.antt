@@ -8,6 +8,7 @@ use borrow.Author.Tests.{ne-eqb}
 use lib.Dec.{eqb}
 use lib.ListN.{length, getD, length-map}
 use Rattle.small.proofs.Lists.{getD-inside}
+use Rattle.table.specs.Kind.{pollingKind}
 use Rattle.table.specs.Limits.{entries}
 use Rattle.table.specs.Table.{zeroServer}
 use Rattle.table.proofs.Sizes.{pastServer}
@@ -17,7 +18,7 @@ use Rattle.scheduler.proofs.polled_entries.Statement.{statement}
 use Rattle.scheduler.proofs.polled_entries.Tie as tie
 
 abbrev Inv-loop : tie.InvT-loop
-Inv-loop t i₀ i = (j : ℕ) → j < i → eqb (getD (t .servers) j zeroServer .kind) 3 ≡ false
+Inv-loop t i₀ i = (j : ℕ) → j < i → eqb (getD (t .servers) j zeroServer .kind) pollingKind ≡ false
 
 abbrev μ-loop : tie.MeasureT-loop
 μ-loop t i₀ i = t .count - i
@@ -54,7 +55,7 @@ loop-again c j l = go (decLt j (k .loop .i))
     k : tie.At-loop Inv-loop μ-loop
     k = c .before .before .before .before
 
-    go : Dec (j < k .loop .i) → eqb (getD (k .before .args .t1 .servers) j zeroServer .kind) 3 ≡ false
+    go : Dec (j < k .loop .i) → eqb (getD (k .before .args .t1 .servers) j zeroServer .kind) pollingKind ≡ false
     go (yes m) = k .loop .inv j m
     go (no m) =
         let e : j ≡ k .loop .i = omega arith in

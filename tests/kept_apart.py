@@ -25,7 +25,7 @@ EDITS = (
     ("program", "0, s.period", "0, s.budget", "Distance", "Served"),
     ("program", "[s.period; Queue::HELD]", "[s.budget; Queue::HELD]", "[Distance; 8]", "[Served; 8]"),
     ("scheduler", "put_in(q, i as u8, s.period)", "put_in(q, i as u8, s.budget)", "Distance", "Served"),
-    ("scheduler", "again(next.arrivals, period_of(r))", "again(next.arrivals, t.work)", "Distance", "Served"),
+    ("scheduler", "again(next.arrivals, table::period_of(r))", "again(next.arrivals, t.work)", "Distance", "Served"),
     ("table", "period: Distance(0)", "period: Served(0)", "Distance", "Served"),
     ("table", "budget: Served(0)", "budget: Distance(0)", "Served", "Distance"),
 )

@@ -18,7 +18,6 @@ ghost use mathlib.Core.Bool.{true};
 ghost use Rattle.field.specs.Field.{over};
 ghost use Rattle.queue.specs.Limits.{longest};
 ghost use Rattle.table.specs.Limits.{mostWork};
-ghost use Rattle.table.specs.Table.{releaseNumber, periodOf, offsetOf};
 ghost use Rattle.table.specs.Sound.{tableb};
 ghost use Rattle.scheduler.specs.Sound.{stateb};
 ghost use Rattle.port.specs.Words.{releaseIn, kindIn, cellIn, cellWord, queueIn, queueWords, loadIn, loadWords, entryIn, entryWords, taskIn, taskWords, serverIn, serverWords, tableIn, tableWords, stateIn, stateWords};
@@ -192,40 +191,10 @@ fn put_task(w: &mut [u32], at: usize, t: Task)
 {
     let e = t.work;
     let r = t.release;
-    w[at] = release_word(r);
+    w[at] = table::release_number(r) as u32;
     w[at + 1] = e.0;
-    w[at + 2] = period_word(r);
-    w[at + 3] = offset_word(r);
-}
-
-fn release_word(r: Release) -> u32
-    ensures { λ x. ⌜ x ≡ releaseNumber r ⌝ }
-{
-    match r {
-        Release::OnArrival => 0,
-        Release::Periodic {
-            period: _,
-            offset: _,
-        } => 1,
-    }
-}
-
-fn period_word(r: Release) -> u32
-    ensures { λ x. ⌜ x ≡ periodOf r ⌝ }
-{
-    match r {
-        Release::OnArrival => 0,
-        Release::Periodic { period, offset: _ } => period.0,
-    }
-}
-
-fn offset_word(r: Release) -> u32
-    ensures { λ x. ⌜ x ≡ offsetOf r ⌝ }
-{
-    match r {
-        Release::OnArrival => 0,
-        Release::Periodic { period: _, offset } => offset.0,
-    }
+    w[at + 2] = table::period_of(r).0;
+    w[at + 3] = table::offset_of(r).0;
 }
 
 fn server_in(w: &[u32], at: usize) -> Server

@@ -18,7 +18,6 @@ ghost use Rattle.queue.specs.Holds.{inTicks};
 ghost use Rattle.queue.specs.Calls.{insertOf};
 ghost use Rattle.queue.specs.Steps.{emptyStep, fallsStep, nearerStep};
 ghost use Rattle.table.specs.Limits.{mostWork, entries};
-ghost use Rattle.table.specs.Table.{releaseNumber, periodOf};
 ghost use Rattle.table.specs.Sound.{tableb};
 ghost use Rattle.scheduler.specs.State.{mostPending, zeroLoad, zeroEntry, withBudget};
 ghost use Rattle.scheduler.specs.Sound.{releaseReach, taskReaches, serverReaches, loadb, zeroLoadb, entryb, allSpentb, stateb};
@@ -193,7 +192,7 @@ pub fn arrive(s: State, server: u8, task: u8) -> Arrived
     }
     let t = entry.tasks[j];
     let release = t.release;
-    if is_periodic(release) {
+    if table::is_periodic(release) {
         return refuse_arrival(Refusal::TASK_PERIODIC, s);
     }
     let work = t.work;
@@ -394,7 +393,7 @@ fn all_due(s: Server, e: Entry) -> EntryTurn
         let l = load_after(next.loads[j], work.0);
         next.loads[j] = l;
         let r = t.release;
-        let q = queue::steps::again(next.arrivals, period_of(r));
+        let q = queue::steps::again(next.arrivals, table::period_of(r));
         next.arrivals = q;
         handled = handled + 1;
     }
@@ -579,27 +578,6 @@ fn arrival_of(l: Load, work: u32) -> Arrival
         return Arrival::Accepted;
     }
     Arrival::Lost
-}
-
-fn is_periodic(r: Release) -> bool
-    ensures { λ x. ⌜ x ≡ eqb (releaseNumber r) 1 ⌝ }
-{
-    match r {
-        Release::OnArrival => false,
-        Release::Periodic {
-            period: _,
-            offset: _,
-        } => true,
-    }
-}
-
-fn period_of(r: Release) -> Distance
-    ensures { λ x. ⌜ x .0 ≡ periodOf r ⌝ }
-{
-    match r {
-        Release::OnArrival => Distance(0),
-        Release::Periodic { period, offset: _ } => period,
-    }
 }
 
 // SOUNDNESS

@@ -19,7 +19,7 @@ ghost use Rattle.field.specs.Field.{over};
 ghost use Rattle.field.specs.Write.{written, bufferAfter};
 ghost use Rattle.queue.specs.Limits.{longest};
 ghost use Rattle.table.specs.Limits.{mostWork, entries};
-ghost use Rattle.table.specs.Table.{releaseNumber, periodOf, offsetOf, zeroServer, zeroTable};
+ghost use Rattle.table.specs.Table.{zeroServer, zeroTable};
 ghost use Rattle.table.specs.Sound.{rangeb, tableb};
 ghost use Rattle.setup.specs.Layout.{taskBytes, serverBytes, recordBytes, bytesOf};
 ghost use Rattle.setup.specs.Read.{taskChecks, taskOf, headChecks, startChecks, readWith, readOf};
@@ -394,40 +394,8 @@ fn put_task(out: &mut [u8], at: usize, t: Task)
 {
     let work = t.work;
     let r = t.release;
-    field::put_byte(out, at, release_number(r));
+    field::put_byte(out, at, table::release_number(r));
     field::put_four(out, at + 1, work.0);
-    field::put_four(out, at + 5, period_of(r));
-    field::put_four(out, at + 9, offset_of(r));
-}
-
-// The document's number and values of a release.
-
-fn release_number(r: Release) -> u8
-    ensures { λ x. ⌜ x ≡ releaseNumber r ⌝ }
-{
-    match r {
-        Release::OnArrival => 0,
-        Release::Periodic {
-            period: _,
-            offset: _,
-        } => 1,
-    }
-}
-
-fn period_of(r: Release) -> u32
-    ensures { λ x. ⌜ x ≡ periodOf r ⌝ }
-{
-    match r {
-        Release::OnArrival => 0,
-        Release::Periodic { period, offset: _ } => period.0,
-    }
-}
-
-fn offset_of(r: Release) -> u32
-    ensures { λ x. ⌜ x ≡ offsetOf r ⌝ }
-{
-    match r {
-        Release::OnArrival => 0,
-        Release::Periodic { period: _, offset } => offset.0,
-    }
+    field::put_four(out, at + 5, table::period_of(r).0);
+    field::put_four(out, at + 9, table::offset_of(r).0);
 }

@@ -4,10 +4,11 @@ use queue::Distance;
 use queue::Queue;
 ghost use mathlib.Core.Path.{_≡_};
 ghost use mathlib.Core.Bool.{true, false};
+ghost use lib.Dec.{eqb};
 ghost use Rattle.small.specs.Small.{pick};
 ghost use Rattle.queue.specs.Limits.{longest};
 ghost use Rattle.table.specs.Limits.{mostWork};
-ghost use Rattle.table.specs.Table.{zeroTask, zeroServer, zeroTable};
+ghost use Rattle.table.specs.Table.{releaseNumber, periodOf, offsetOf, zeroTask, zeroServer, zeroTable};
 ghost use Rattle.table.specs.Sound.{rangeb, kindb, releaseb, taskb, zeroTaskb, tasksb, serverb, zeroServerb, tableb};
 
 // Ticks that a server is served: budgets and work. A `Distance` counts ticks of the clock, and neither passes for the other.
@@ -242,5 +243,49 @@ fn task_zero(t: Task) -> bool
             period: _,
             offset: _,
         } => false,
+    }
+}
+
+// RELEASES: the document's number and values of each. On arrival, the period and the offset are 0.
+
+pub fn release_number(r: Release) -> u8
+    ensures { λ x. ⌜ x ≡ releaseNumber r ⌝ }
+{
+    match r {
+        Release::OnArrival => 0,
+        Release::Periodic {
+            period: _,
+            offset: _,
+        } => 1,
+    }
+}
+
+pub fn is_periodic(r: Release) -> bool
+    ensures { λ x. ⌜ x ≡ eqb (releaseNumber r) 1 ⌝ }
+{
+    match r {
+        Release::OnArrival => false,
+        Release::Periodic {
+            period: _,
+            offset: _,
+        } => true,
+    }
+}
+
+pub fn period_of(r: Release) -> Distance
+    ensures { λ x. ⌜ x .0 ≡ periodOf r ⌝ }
+{
+    match r {
+        Release::OnArrival => Distance(0),
+        Release::Periodic { period, offset: _ } => period,
+    }
+}
+
+pub fn offset_of(r: Release) -> Distance
+    ensures { λ x. ⌜ x .0 ≡ offsetOf r ⌝ }
+{
+    match r {
+        Release::OnArrival => Distance(0),
+        Release::Periodic { period: _, offset } => offset,
     }
 }

@@ -6,8 +6,11 @@ use Rattle.port.proofs.Places.{four-stores}
 use Rattle.port.proofs.words.put_task.Statement.{statement}
 use Rattle.port.proofs.words.put_task.Tie as tie
 
-release-word-requires : tie.Need-release-word-requires
-release-word-requires c κs = search needs
+release-number-requires : tie.Need-release-number-requires
+release-number-requires c κs = search needs
+
+cast-w : tie.Need-cast-w
+cast-w c = search needs
 
 mul-w : tie.Need-mul-w
 mul-w c = search needs
@@ -24,8 +27,8 @@ mul-w-2 c = search needs
 slice-write-w-2 : tie.Need-slice-write-w-2
 slice-write-w-2 c = simp length-set (omega arith)
 
-period-word-requires : tie.Need-period-word-requires
-period-word-requires c κs = search needs
+period-of-requires : tie.Need-period-of-requires
+period-of-requires c κs = search needs
 
 add-w-2 : tie.Need-add-w-2
 add-w-2 c = search needs
@@ -36,8 +39,8 @@ mul-w-3 c = search needs
 slice-write-w-3 : tie.Need-slice-write-w-3
 slice-write-w-3 c = simp length-set (omega arith)
 
-offset-word-requires : tie.Need-offset-word-requires
-offset-word-requires c κs = search needs
+offset-of-requires : tie.Need-offset-of-requires
+offset-of-requires c κs = search needs
 
 add-w-3 : tie.Need-add-w-3
 add-w-3 c = search needs
@@ -54,23 +57,24 @@ same-length c = search needs
 returns : tie.Need-returns
 returns c =
     let p = c .before .before in
-    rw (p .release-word .ensures, c .before .period-word .ensures, c .offset-word .ensures) (four-stores _ _ _ _ _ _ (p .before .before .before .pre))
+    rw (p .release-number .ensures, c .before .period-of .ensures, c .offset-of .ensures) (four-stores _ _ _ _ _ _ (p .before .before .before .pre))
 
 pub put-task-spec : {M : Type 1} → statement M
 put-task-spec =
     tie.close
     (tie.spec
-    release-word-requires
+    release-number-requires
+    cast-w
     mul-w
     slice-write-w
     add-w
     mul-w-2
     slice-write-w-2
-    period-word-requires
+    period-of-requires
     add-w-2
     mul-w-3
     slice-write-w-3
-    offset-word-requires
+    offset-of-requires
     add-w-3
     mul-w-4
     slice-write-w-4

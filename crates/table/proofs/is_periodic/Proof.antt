@@ -1,7 +1,7 @@
--- `scheduler::is_periodic` meets its contract: the match tells the case of the release, and the periodic one has number 1.
+-- `table::is_periodic` meets its contract: the match tells the case of the release, and the periodic one has number 1.
 use borrow.Author.Needs.{needs}
-use Rattle.scheduler.proofs.is_periodic.Statement.{statement}
-use Rattle.scheduler.proofs.is_periodic.Tie as tie
+use Rattle.table.proofs.is_periodic.Statement.{statement}
+use Rattle.table.proofs.is_periodic.Tie as tie
 
 enum-told : tie.Need-enum-told
 enum-told c = search needs

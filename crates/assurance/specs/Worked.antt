@@ -67,8 +67,8 @@ pub record Worked : Type 0 where
   pub ending-works : tally (workless 0) (periodEnds ending (run 2 ∷ []) 0 0) ≡ 0
   pub ending-done : workless 0 (stateAfterTicks 2 (freshOf ending .state)) ≡ true
   pub ending-runs : tally (runs 0) (periodTicks ending (run 2 ∷ []) 0 0) ≡ sure ending 0
-  -- why the ends of ticks count: it wants each tick on which it has budget, has work before each tick of its period 1, and runs 1 of the 2 ticks that it would be
-  -- sure of. At the end of tick 4, the first of the period, no work was pending
+  -- why the ends of ticks count: it wants each tick on which it has budget, has work before each tick of its period 1, and runs 1 of the 2 ticks that it
+  -- would be sure of. At the end of tick 4, the first of the period, no work was pending
   pub late-sound : tableb longest mostWork late ≡ true
   pub late-whole : length (periodTicks late lateCalls 0 1) ≡ 4
   pub late-wants : tally (declines 0) (periodTicks late lateCalls 0 1) ≡ 0

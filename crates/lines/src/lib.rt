@@ -36,7 +36,8 @@ const MOST_POWER: usize = 19;
 
 // `tick server task`
 pub fn header(out: &mut [u8], at: usize) -> Written
-    ensures { λ r. ⌜ (r ≡ putOf at headerText (now (out .entry))) × (now (out .exit) ≡ over at headerText (now (out .entry))) ⌝ }
+    ensures answer { λ r. ⌜ r ≡ putOf at headerText (now (out .entry)) ⌝ }
+    ensures buffer { λ _. ⌜ now (out .exit) ≡ over at headerText (now (out .entry)) ⌝ }
 {
     if !fits(out, at, HEADER) {
         return Written::refused(Refusal::BUFFER_SHORT);
@@ -47,7 +48,8 @@ pub fn header(out: &mut [u8], at: usize) -> Written
 
 // The line of a message.
 pub fn message_line(out: &mut [u8], at: usize, l: Line) -> Written
-    ensures { λ r. ⌜ (r ≡ putOf at (lineText l) (now (out .entry))) × (now (out .exit) ≡ over at (lineText l) (now (out .entry))) ⌝ }
+    ensures answer { λ r. ⌜ r ≡ putOf at (lineText l) (now (out .entry)) ⌝ }
+    ensures buffer { λ _. ⌜ now (out .exit) ≡ over at (lineText l) (now (out .entry)) ⌝ }
 {
     match l {
         Line::Nothing => nothing(out, at),
@@ -65,7 +67,8 @@ pub fn ticks(
     answers: [Answer; State::BATCH],
     count: usize,
 ) -> Written
-    ensures { λ r. ⌜ (r ≡ putOf at (answerLines first count answers) (now (out .entry))) × (now (out .exit) ≡ over at (answerLines first count answers) (now (out .entry))) ⌝ }
+    ensures answer { λ r. ⌜ r ≡ putOf at (answerLines first count answers) (now (out .entry)) ⌝ }
+    ensures buffer { λ _. ⌜ now (out .exit) ≡ over at (answerLines first count answers) (now (out .entry)) ⌝ }
 {
     let n = small::least(count, State::BATCH);
     if !fits(out, at, BATCH_ROOM) {
@@ -86,7 +89,8 @@ pub fn ticks(
 
 // `end` and the number of ticks.
 pub fn end(out: &mut [u8], at: usize, n: u32) -> Written
-    ensures { λ r. ⌜ (r ≡ putOf at (endLine n) (now (out .entry))) × (now (out .exit) ≡ over at (endLine n) (now (out .entry))) ⌝ }
+    ensures answer { λ r. ⌜ r ≡ putOf at (endLine n) (now (out .entry)) ⌝ }
+    ensures buffer { λ _. ⌜ now (out .exit) ≡ over at (endLine n) (now (out .entry)) ⌝ }
 {
     let size = 5 + places(n as u64);
     if !fits(out, at, size) {
@@ -101,7 +105,8 @@ pub fn end(out: &mut [u8], at: usize, n: u32) -> Written
 // THE LINES OF MESSAGES
 
 fn nothing(out: &mut [u8], at: usize) -> Written
-    ensures { λ r. ⌜ (r ≡ putOf at (lineText Nothing) (now (out .entry))) × (now (out .exit) ≡ over at (lineText Nothing) (now (out .entry))) ⌝ }
+    ensures answer { λ r. ⌜ r ≡ putOf at (lineText Nothing) (now (out .entry)) ⌝ }
+    ensures buffer { λ _. ⌜ now (out .exit) ≡ over at (lineText Nothing) (now (out .entry)) ⌝ }
 {
     if !fits(out, at, 0) {
         return Written::refused(Refusal::BUFFER_SHORT);
@@ -110,7 +115,8 @@ fn nothing(out: &mut [u8], at: usize) -> Written
 }
 
 fn refused(out: &mut [u8], at: usize, n: u8, place: u64) -> Written
-    ensures { λ r. ⌜ (r ≡ putOf at (lineText (Refused n place)) (now (out .entry))) × (now (out .exit) ≡ over at (lineText (Refused n place)) (now (out .entry))) ⌝ }
+    ensures answer { λ r. ⌜ r ≡ putOf at (lineText (Refused n place)) (now (out .entry)) ⌝ }
+    ensures buffer { λ _. ⌜ now (out .exit) ≡ over at (lineText (Refused n place)) (now (out .entry)) ⌝ }
 {
     let size = 12 + mark_size(n) + places(place);
     if !fits(out, at, size) {
@@ -125,7 +131,8 @@ fn refused(out: &mut [u8], at: usize, n: u8, place: u64) -> Written
 }
 
 fn lost(out: &mut [u8], at: usize, server: u8, task: u8) -> Written
-    ensures { λ r. ⌜ (r ≡ putOf at (lineText (Lost server task)) (now (out .entry))) × (now (out .exit) ≡ over at (lineText (Lost server task)) (now (out .entry))) ⌝ }
+    ensures answer { λ r. ⌜ r ≡ putOf at (lineText (Lost server task)) (now (out .entry)) ⌝ }
+    ensures buffer { λ _. ⌜ now (out .exit) ≡ over at (lineText (Lost server task)) (now (out .entry)) ⌝ }
 {
     let size = 5 + mark_size(server) + mark_size(task);
     if !fits(out, at, size) {
@@ -185,7 +192,8 @@ fn mark_size(n: u8) -> usize
 
 fn tick(out: &mut [u8], at: usize, n: u64, c: Choice) -> usize
     requires { ⌜ at + length (tickLine n c) ≤ length (now out) ⌝ }
-    ensures { λ r. ⌜ (r ≡ at + length (tickLine n c)) × (now (out .exit) ≡ over at (tickLine n c) (now (out .entry))) ⌝ }
+    ensures answer { λ r. ⌜ r ≡ at + length (tickLine n c) ⌝ }
+    ensures buffer { λ _. ⌜ now (out .exit) ≡ over at (tickLine n c) (now (out .entry)) ⌝ }
 {
     let p = number(out, at, n);
     match c {
@@ -197,7 +205,8 @@ fn tick(out: &mut [u8], at: usize, n: u64, c: Choice) -> usize
 
 fn idle(out: &mut [u8], at: usize) -> usize
     requires { ⌜ at + 5 ≤ length (now out) ⌝ }
-    ensures { λ r. ⌜ (r ≡ at + length (choiceText Idle)) × (now (out .exit) ≡ over at (choiceText Idle) (now (out .entry))) ⌝ }
+    ensures answer { λ r. ⌜ r ≡ at + length (choiceText Idle) ⌝ }
+    ensures buffer { λ _. ⌜ now (out .exit) ≡ over at (choiceText Idle) (now (out .entry)) ⌝ }
 {
     let a = dash(out, at);
     let b = dash(out, a);
@@ -206,7 +215,8 @@ fn idle(out: &mut [u8], at: usize) -> usize
 
 fn burning(out: &mut [u8], at: usize, server: u8) -> usize
     requires { ⌜ at + (length (markText server) + 3) ≤ length (now out) ⌝ }
-    ensures { λ r. ⌜ (r ≡ at + length (choiceText (Burning server))) × (now (out .exit) ≡ over at (choiceText (Burning server)) (now (out .entry))) ⌝ }
+    ensures answer { λ r. ⌜ r ≡ at + length (choiceText (Burning server)) ⌝ }
+    ensures buffer { λ _. ⌜ now (out .exit) ≡ over at (choiceText (Burning server)) (now (out .entry)) ⌝ }
 {
     let a = mark(out, at, server);
     let b = dash(out, a);
@@ -215,7 +225,8 @@ fn burning(out: &mut [u8], at: usize, server: u8) -> usize
 
 fn running(out: &mut [u8], at: usize, server: u8, task: u8) -> usize
     requires { ⌜ at + (length (markText server) + (length (markText task) + 1)) ≤ length (now out) ⌝ }
-    ensures { λ r. ⌜ (r ≡ at + length (choiceText (Running server task))) × (now (out .exit) ≡ over at (choiceText (Running server task)) (now (out .entry))) ⌝ }
+    ensures answer { λ r. ⌜ r ≡ at + length (choiceText (Running server task)) ⌝ }
+    ensures buffer { λ _. ⌜ now (out .exit) ≡ over at (choiceText (Running server task)) (now (out .entry)) ⌝ }
 {
     let a = mark(out, at, server);
     let b = mark(out, a, task);
@@ -226,7 +237,8 @@ fn running(out: &mut [u8], at: usize, server: u8, task: u8) -> usize
 
 fn put(out: &mut [u8], at: usize, b: u8) -> usize
     requires { ⌜ at < length (now out) ⌝ }
-    ensures { λ r. ⌜ (r ≡ at + 1) × (now (out .exit) ≡ over at (b ∷ []) (now (out .entry))) ⌝ }
+    ensures answer { λ r. ⌜ r ≡ at + 1 ⌝ }
+    ensures buffer { λ _. ⌜ now (out .exit) ≡ over at (b ∷ []) (now (out .entry)) ⌝ }
 {
     out[at] = b;
     at + 1
@@ -234,7 +246,8 @@ fn put(out: &mut [u8], at: usize, b: u8) -> usize
 
 fn word(out: &mut [u8], at: usize, s: &[u8]) -> usize
     requires { ⌜ at + length (now s) ≤ length (now out) ⌝ }
-    ensures { λ r. ⌜ (r ≡ at + length (now (s .entry))) × (now (out .exit) ≡ over at (now (s .entry)) (now (out .entry))) ⌝ }
+    ensures answer { λ r. ⌜ r ≡ at + length (now (s .entry)) ⌝ }
+    ensures buffer { λ _. ⌜ now (out .exit) ≡ over at (now (s .entry)) (now (out .entry)) ⌝ }
 {
     let mut i: usize = 0;
     while i < s.len() {
@@ -247,7 +260,8 @@ fn word(out: &mut [u8], at: usize, s: &[u8]) -> usize
 // A space and a dash.
 fn dash(out: &mut [u8], at: usize) -> usize
     requires { ⌜ at + 2 ≤ length (now out) ⌝ }
-    ensures { λ r. ⌜ (r ≡ at + 2) × (now (out .exit) ≡ over at (space ∷ minus ∷ []) (now (out .entry))) ⌝ }
+    ensures answer { λ r. ⌜ r ≡ at + 2 ⌝ }
+    ensures buffer { λ _. ⌜ now (out .exit) ≡ over at (space ∷ minus ∷ []) (now (out .entry)) ⌝ }
 {
     out[at] = b' ';
     out[at + 1] = b'-';
@@ -257,7 +271,8 @@ fn dash(out: &mut [u8], at: usize) -> usize
 // A space and a number of a byte, which is mostly one digit.
 fn mark(out: &mut [u8], at: usize, n: u8) -> usize
     requires { ⌜ at + length (markText n) ≤ length (now out) ⌝ }
-    ensures { λ r. ⌜ (r ≡ at + length (markText n)) × (now (out .exit) ≡ over at (markText n) (now (out .entry))) ⌝ }
+    ensures answer { λ r. ⌜ r ≡ at + length (markText n) ⌝ }
+    ensures buffer { λ _. ⌜ now (out .exit) ≡ over at (markText n) (now (out .entry)) ⌝ }
 {
     out[at] = b' ';
     if n <= 9 {
@@ -270,7 +285,8 @@ fn mark(out: &mut [u8], at: usize, n: u8) -> usize
 // The decimal digits of n, with no leading zero.
 fn number(out: &mut [u8], at: usize, n: u64) -> usize
     requires { ⌜ at + length (decimal n) ≤ length (now out) ⌝ }
-    ensures { λ r. ⌜ (r ≡ at + length (decimal n)) × (now (out .exit) ≡ over at (decimal n) (now (out .entry))) ⌝ }
+    ensures answer { λ r. ⌜ r ≡ at + length (decimal n) ⌝ }
+    ensures buffer { λ _. ⌜ now (out .exit) ≡ over at (decimal n) (now (out .entry)) ⌝ }
 {
     let end = at + places(n);
     let mut rest = n;

@@ -57,7 +57,8 @@ pub fn read(s: &[u8]) -> Reading
 
 // Writes a message of a kind with any two bytes.
 pub fn write(kind: u8, a: u8, b: u8, out: &mut [u8]) -> Written
-    ensures { λ r. ⌜ (r ≡ written (writeRefusal kind (length (now (out .entry)))) (rawBytes kind a b)) × (now (out .exit) ≡ bufferAfter (writeRefusal kind (length (now (out .entry)))) (rawBytes kind a b) (now (out .entry))) ⌝ }
+    ensures answer { λ r. ⌜ r ≡ written (writeRefusal kind (length (now (out .entry)))) (rawBytes kind a b) ⌝ }
+    ensures buffer { λ _. ⌜ now (out .exit) ≡ bufferAfter (writeRefusal kind (length (now (out .entry)))) (rawBytes kind a b) (now (out .entry)) ⌝ }
 {
     if kind != Message::RUN {
         if kind != Message::ARRIVAL {

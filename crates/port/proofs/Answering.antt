@@ -37,7 +37,7 @@ use Rattle.scheduler.proofs.FreshSound.{fresh-made, fresh-sound}
 use Rattle.scheduler.proofs.TickSound.{ticked-sound, arrive-sound, tick-sound-accepted}
 use Rattle.port.specs.Layout.{wordLimit, tableSize}
 use Rattle.port.specs.Words.{word, tableIn, tableWords}
-use Rattle.port.specs.Exports.{heldAfter, messageWords}
+use Rattle.port.specs.Exports.{heldLength, messageWords}
 use Rattle.port.proofs.Many.{over-all}
 use Rattle.port.proofs.Storing.{held-new}
 use Rattle.port.proofs.Sizing.{table-in-full, full-sized, sized-full, table-length}
@@ -96,5 +96,5 @@ module _ (ws : List ℕ) (n : ℕ) (w : Written) (e : w ≡ written (writeRefusa
         let sound : tableb longest mostWork t ≡ true = not-false _ (passes checks (numbered checks refl) .0 passed .0) in
         omega (arith, table-bytes, bytes-length longest mostWork t (full-sized t (table-in-full ws)) sound .1)
 
-    pub table-told : (old : List ℕ) → w .length ∷ [] ≡ heldAfter (writeRefusal longest mostWork (tableIn ws) n) (length (bytesOf (tableIn ws)) ∷ []) old
+    pub table-told : (old : List ℕ) → w .length ∷ [] ≡ heldLength (tableIn ws) n old
     table-told old = rw (table-bytes, held-new (w .refusal) _ table-refusal (length (bytesOf (tableIn ws)) ∷ []) old accepted)

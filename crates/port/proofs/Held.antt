@@ -31,7 +31,7 @@ use Rattle.queue.proofs.Keeps.{empty-sound, empty-events}
 use Rattle.queue.proofs.DueTimes.{there, insert-others, remove-others, clock-others, take-first, take-others, push-back-others}
 use Rattle.port.specs.Layout.{queueSize}
 use Rattle.port.specs.Words.{word, manyIn, cellIn, cellWord, queueIn, queueWords}
-use Rattle.port.specs.Exports.{heldAfter, heldQueue}
+use Rattle.port.specs.Exports.{heldAfter, heldQueue, heldRest}
 use Rattle.port.proofs.Many.{Back, many-back, many-held}
 use Rattle.port.proofs.Storing.{held-again, insert-gives, remove-gives, clock-gives, take-gives, push-back-gives}
 
@@ -253,7 +253,7 @@ module _ (ws : List ℕ) where
       (λ a. record { sound = clock-gives queue a; byte = omega arith; others = λ j n. clock-others maxGap longest queue (omega arith) a j .0 })
       (clock-unchanged maxGap longest queue)
 
-  pub take-again : let t = takeOf maxGap longest queue in queueIn (heldAfter (t .refusal) (queueWords (t .queue)) ws) ≡ t .queue
+  pub take-again : let t = takeOf maxGap longest queue in queueIn (heldRest t ws) ≡ t .queue
   take-again =
       let t = takeOf maxGap longest queue in
       queue-again ws (t .refusal) (t .queue) (t .id)

@@ -45,7 +45,7 @@ use Rattle.scheduler.proofs.KeptSizes.{tick-sized, arrive-sized, fresh-sized}
 use Rattle.port.specs.Layout.{queueSize, loadSize, entrySize, taskSize, serverSize, tableSize, stateSize}
 use Rattle.port.specs.Words.{word, manyIn, queueIn, loadIn, entryIn, releaseIn, taskIn, kindIn, serverIn, tableIn, stateIn}
 use Rattle.port.specs.Words.{queueWords, loadWords, entryWords, taskWords, serverWords, tableWords, stateWords}
-use Rattle.port.specs.Exports.{heldAfter}
+use Rattle.port.specs.Exports.{heldState, heldArrived}
 use Rattle.port.proofs.Many.{Back, many-back, many-held}
 use Rattle.port.proofs.Storing.{queue-length, held-again}
 use Rattle.port.proofs.Answering.{fresh-gives, tick-gives, arrive-gives}
@@ -283,7 +283,7 @@ module _ (bs : List ℕ) (a : readOf longest mostWork bs .refusal .number ≡ 0)
       state-there (freshOf t .state) (rw (fresh-made t (h .0)) (fresh-sized t (h .1))) (fresh-gives t (h .0))
 
 -- WHAT A CALL LEAVES IN THE WORDS, THE NEXT CALL READS: behind a tick and an arrival, accepted or refused, the state that the call by value hands back
-pub tick-again : (ws : List ℕ) → let t = tickOf (stateIn ws) in stateIn (heldAfter (t .refusal) (stateWords (t .state)) ws) ≡ t .state
+pub tick-again : (ws : List ℕ) → let t = tickOf (stateIn ws) in stateIn (heldState t ws) ≡ t .state
 tick-again ws =
     let s = stateIn ws in
     let t = tickOf s in
@@ -291,7 +291,7 @@ tick-again ws =
     (λ a. state-there (t .state) (rw (tick-accepts s (tick-sound-accepted s .0 a)) (tick-sized s (state-in-sized ws))) (tick-gives s a))
     (λ n. sym (tick-unchanged s n .0))
 
-pub arrive-again : (ws : List ℕ) (i j : ℕ) → let t = arriveOf (stateIn ws) i j in stateIn (heldAfter (t .refusal) (stateWords (t .state)) ws) ≡ t .state
+pub arrive-again : (ws : List ℕ) (i j : ℕ) → let t = arriveOf (stateIn ws) i j in stateIn (heldArrived t ws) ≡ t .state
 arrive-again ws i j =
     let s = stateIn ws in
     let t = arriveOf s i j in

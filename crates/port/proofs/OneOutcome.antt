@@ -49,7 +49,7 @@ queue-clock-one κs a x y e f p q = λ i. (same (p .0) (q .0) i, same (p .1) (q 
 
 -- the id is the second parameter
 pub queue-take-one : One {B = Refusal × List ℕ × List ℕ} queue-take.Post (λ κs x e. (x, now (e .0), now (e .1 .0)))
-queue-take-one κs a x y e f p q = λ i. (same (p .0) (q .0) i, same (p .1) (q .1) i, same (p .2) (q .2) i)
+queue-take-one κs a x y e f p q = λ i. (same (p .0) (q .0) i, same (p .1 .0) (q .1 .0) i, same (p .1 .1) (q .1 .1) i)
 
 pub queue-push-back-one : One {B = Refusal × List ℕ} queue-push-back.Post (λ κs x e. (x, now (e .0)))
 queue-push-back-one κs a x y e f p q = λ i. (same (p .0) (q .0) i, same (p .1) (q .1) i)
@@ -64,11 +64,11 @@ sound-one κs a x y e f p q = same p q
 
 -- the answer's words are the second parameter
 pub tick-one : One {B = Refusal × List ℕ × List ℕ} tick.Post (λ κs x e. (x, now (e .0), now (e .1 .0)))
-tick-one κs a x y e f p q = λ i. (same (p .0) (q .0) i, same (p .1) (q .1) i, same (p .2) (q .2) i)
+tick-one κs a x y e f p q = λ i. (same (p .0) (q .0) i, same (p .1 .0) (q .1 .0) i, same (p .1 .1) (q .1 .1) i)
 
 -- whether the work is lost is the fourth
 pub arrive-one : One {B = Refusal × List ℕ × List ℕ} arrive.Post (λ κs x e. (x, now (e .0), now (e .1 .1 .1 .0)))
-arrive-one κs a x y e f p q = λ i. (same (p .0) (q .0) i, same (p .1) (q .1) i, same (p .2) (q .2) i)
+arrive-one κs a x y e f p q = λ i. (same (p .0) (q .0) i, same (p .1 .0) (q .1 .0) i, same (p .1 .1) (q .1 .1) i)
 
 -- the budget is the third
 pub budget-one : One {B = Refusal × List ℕ} budget.Post (λ κs x e. (x, now (e .1 .1 .0)))
@@ -86,7 +86,7 @@ setup-read-one κs a x y e f p q = λ i. (same (p .0) (q .0) i, same (p .1) (q .
 
 -- the buffer is the second, the length written the third
 pub setup-write-one : One {B = Refusal × List ℕ × List ℕ} setup-write.Post (λ κs x e. (x, now (e .1 .0), now (e .1 .1 .0)))
-setup-write-one κs a x y e f p q = λ i. (same (p .0) (q .0) i, same (p .1) (q .1) i, same (p .2) (q .2) i)
+setup-write-one κs a x y e f p q = λ i. (same (p .0) (q .0) i, same (p .1 .0) (q .1 .0) i, same (p .1 .1) (q .1 .1) i)
 
 -- the message's words are the second
 pub message-read-one : One {B = Refusal × List ℕ} message-read.Post (λ κs x e. (x, now (e .1 .0)))

@@ -1,5 +1,5 @@
-// The library for a kernel in C: include/ribascenzo.h declares it. A queue, a table or a state is held in words at fixed places (words.rt). A call reads them, does
-// what the by-value call does, and stores what comes of it; a refused call stores nothing.
+// The library for a kernel in C: include/ribascenzo.h declares it. A queue, a table or a state is held in words at fixed places (words.rt). A call reads
+// them, does what the by-value call does, and stores what comes of it; a refused call stores nothing.
 mod words;
 
 use message::Message;
@@ -21,18 +21,17 @@ ghost use Rattle.queue.specs.Sound.{soundb};
 ghost use Rattle.queue.specs.Calls.{insertOf, removeOf, timeLeftOf, clockOf, takeOf, pushBackOf};
 ghost use Rattle.table.specs.Limits.{mostWork};
 ghost use Rattle.setup.specs.Read.{readOf as setupOf};
-ghost use Rattle.setup.specs.Layout.{bytesOf};
-ghost use Rattle.setup.specs.Write.{writeRefusal};
+ghost use Rattle.setup.specs.Write.{writeRefusal, writtenTo};
 ghost use Rattle.message.specs.Message.{readOf, rawBytes};
 ghost use Rattle.message.specs.Message.{writeRefusal as messageRefusal};
-ghost use Rattle.scheduler.specs.State.{entryAt, loadAt};
 ghost use Rattle.scheduler.specs.Sound.{stateb};
 ghost use Rattle.scheduler.specs.Choice.{choiceNumber};
 ghost use Rattle.scheduler.specs.Arrive.{arrivalNumber, arriveOf};
 ghost use Rattle.scheduler.specs.Tick.{tickOf};
-ghost use Rattle.scheduler.specs.Fresh.{freshOf};
-ghost use Rattle.port.specs.Words.{word, queueIn, queueWords, loadWords, tableIn, tableWords, stateIn, stateWords};
-ghost use Rattle.port.specs.Exports.{heldAfter, heldQueue, chosenServer, chosenTask, answerWords, budgetRefusal, loadRefusal, messageWords};
+ghost use Rattle.port.specs.Words.{word, queueIn, queueWords, tableIn, stateIn};
+ghost use Rattle.port.specs.Exports.{chosenServer, chosenTask, budgetRefusal, loadRefusal, messageWords};
+ghost use Rattle.port.specs.Exports.{heldQueue, heldDistance, heldRest, heldId, heldState, heldAnswer, heldArrived, heldLost};
+ghost use Rattle.port.specs.Exports.{heldBudget, heldLoad, heldTable, heldFresh, heldLength, heldMessage};
 
 // THE QUEUE
 
@@ -52,7 +51,8 @@ pub extern "C" fn ribascenzo_queue_sound(q: &[u32; QUEUE]) -> bool
 
 #[no_mangle]
 pub extern "C" fn ribascenzo_queue_insert(q: &mut [u32; QUEUE], id: u8, delay: u32) -> Refusal
-    ensures { λ r. ⌜ (r ≡ insertOf maxGap longest (queueIn (now (q .entry))) id delay .refusal) × (now (q .exit) ≡ heldQueue (insertOf maxGap longest (queueIn (now (q .entry))) id delay) (now (q .entry))) ⌝ }
+    ensures refusal { λ r. ⌜ r ≡ insertOf maxGap longest (queueIn (now (q .entry))) id delay .refusal ⌝ }
+    ensures queue { λ _. ⌜ now (q .exit) ≡ heldQueue (insertOf maxGap longest (queueIn (now (q .entry))) id delay) (now (q .entry)) ⌝ }
 {
     let c = queue::insert(words::queue_in(q, 0), id, Distance(delay));
     let r = c.refusal;
@@ -64,7 +64,8 @@ pub extern "C" fn ribascenzo_queue_insert(q: &mut [u32; QUEUE], id: u8, delay: u
 
 #[no_mangle]
 pub extern "C" fn ribascenzo_queue_remove(q: &mut [u32; QUEUE], id: u8) -> Refusal
-    ensures { λ r. ⌜ (r ≡ removeOf maxGap longest (queueIn (now (q .entry))) id .refusal) × (now (q .exit) ≡ heldQueue (removeOf maxGap longest (queueIn (now (q .entry))) id) (now (q .entry))) ⌝ }
+    ensures refusal { λ r. ⌜ r ≡ removeOf maxGap longest (queueIn (now (q .entry))) id .refusal ⌝ }
+    ensures queue { λ _. ⌜ now (q .exit) ≡ heldQueue (removeOf maxGap longest (queueIn (now (q .entry))) id) (now (q .entry)) ⌝ }
 {
     let c = queue::remove(words::queue_in(q, 0), id);
     let r = c.refusal;
@@ -80,7 +81,8 @@ pub extern "C" fn ribascenzo_queue_time_left(
     id: u8,
     distance: &mut [u32; 1],
 ) -> Refusal
-    ensures { λ r. ⌜ (r ≡ timeLeftOf maxGap longest (queueIn (now (q .entry))) id .refusal) × (now (distance .exit) ≡ heldAfter (timeLeftOf maxGap longest (queueIn (now (q .entry))) id .refusal) (timeLeftOf maxGap longest (queueIn (now (q .entry))) id .distance .0 ∷ []) (now (distance .entry))) ⌝ }
+    ensures refusal { λ r. ⌜ r ≡ timeLeftOf maxGap longest (queueIn (now (q .entry))) id .refusal ⌝ }
+    ensures distance { λ _. ⌜ now (distance .exit) ≡ heldDistance (timeLeftOf maxGap longest (queueIn (now (q .entry))) id) (now (distance .entry)) ⌝ }
 {
     let l = queue::time_left(words::queue_in(q, 0), id);
     let refused = l.refusal;
@@ -93,7 +95,8 @@ pub extern "C" fn ribascenzo_queue_time_left(
 
 #[no_mangle]
 pub extern "C" fn ribascenzo_queue_clock(q: &mut [u32; QUEUE]) -> Refusal
-    ensures { λ r. ⌜ (r ≡ clockOf maxGap longest (queueIn (now (q .entry))) .refusal) × (now (q .exit) ≡ heldQueue (clockOf maxGap longest (queueIn (now (q .entry)))) (now (q .entry))) ⌝ }
+    ensures refusal { λ r. ⌜ r ≡ clockOf maxGap longest (queueIn (now (q .entry))) .refusal ⌝ }
+    ensures queue { λ _. ⌜ now (q .exit) ≡ heldQueue (clockOf maxGap longest (queueIn (now (q .entry)))) (now (q .entry)) ⌝ }
 {
     let c = queue::clock(words::queue_in(q, 0));
     let r = c.refusal;
@@ -105,7 +108,9 @@ pub extern "C" fn ribascenzo_queue_clock(q: &mut [u32; QUEUE]) -> Refusal
 
 #[no_mangle]
 pub extern "C" fn ribascenzo_queue_take(q: &mut [u32; QUEUE], id: &mut [u8; 1]) -> Refusal
-    ensures { λ r. ⌜ (r ≡ takeOf maxGap longest (queueIn (now (q .entry))) .refusal) × (now (q .exit) ≡ heldAfter (takeOf maxGap longest (queueIn (now (q .entry))) .refusal) (queueWords (takeOf maxGap longest (queueIn (now (q .entry))) .queue)) (now (q .entry))) × (now (id .exit) ≡ heldAfter (takeOf maxGap longest (queueIn (now (q .entry))) .refusal) (takeOf maxGap longest (queueIn (now (q .entry))) .id ∷ []) (now (id .entry))) ⌝ }
+    ensures refusal { λ r. ⌜ r ≡ takeOf maxGap longest (queueIn (now (q .entry))) .refusal ⌝ }
+    ensures queue { λ _. ⌜ now (q .exit) ≡ heldRest (takeOf maxGap longest (queueIn (now (q .entry)))) (now (q .entry)) ⌝ }
+    ensures id { λ _. ⌜ now (id .exit) ≡ heldId (takeOf maxGap longest (queueIn (now (q .entry)))) (now (id .entry)) ⌝ }
 {
     let t = queue::take(words::queue_in(q, 0));
     let r = t.refusal;
@@ -118,7 +123,8 @@ pub extern "C" fn ribascenzo_queue_take(q: &mut [u32; QUEUE], id: &mut [u8; 1]) 
 
 #[no_mangle]
 pub extern "C" fn ribascenzo_queue_push_back(q: &mut [u32; QUEUE]) -> Refusal
-    ensures { λ r. ⌜ (r ≡ pushBackOf maxGap longest (queueIn (now (q .entry))) .refusal) × (now (q .exit) ≡ heldQueue (pushBackOf maxGap longest (queueIn (now (q .entry)))) (now (q .entry))) ⌝ }
+    ensures refusal { λ r. ⌜ r ≡ pushBackOf maxGap longest (queueIn (now (q .entry))) .refusal ⌝ }
+    ensures queue { λ _. ⌜ now (q .exit) ≡ heldQueue (pushBackOf maxGap longest (queueIn (now (q .entry)))) (now (q .entry)) ⌝ }
 {
     let c = queue::push_back(words::queue_in(q, 0));
     let r = c.refusal;
@@ -133,7 +139,8 @@ pub extern "C" fn ribascenzo_queue_push_back(q: &mut [u32; QUEUE]) -> Refusal
 // The state in which a setup begins.
 #[no_mangle]
 pub extern "C" fn ribascenzo_fresh(s: &mut [u32; STATE], setup: &[u8]) -> Refusal
-    ensures { λ r. ⌜ (r ≡ setupOf longest mostWork (now (setup .entry)) .refusal) × (now (s .exit) ≡ heldAfter (setupOf longest mostWork (now (setup .entry)) .refusal) (stateWords (freshOf (setupOf longest mostWork (now (setup .entry)) .table) .state)) (now (s .entry))) ⌝ }
+    ensures refusal { λ r. ⌜ r ≡ setupOf longest mostWork (now (setup .entry)) .refusal ⌝ }
+    ensures state { λ _. ⌜ now (s .exit) ≡ heldFresh (setupOf longest mostWork (now (setup .entry))) (now (s .entry)) ⌝ }
 {
     let r = setup::read(setup);
     let refusal = r.refusal;
@@ -153,7 +160,9 @@ pub extern "C" fn ribascenzo_sound(s: &[u32; STATE]) -> bool
 
 #[no_mangle]
 pub extern "C" fn ribascenzo_tick(s: &mut [u32; STATE], answer: &mut [u32; 4]) -> Refusal
-    ensures { λ r. ⌜ (r ≡ tickOf (stateIn (now (s .entry))) .refusal) × (now (s .exit) ≡ heldAfter (tickOf (stateIn (now (s .entry))) .refusal) (stateWords (tickOf (stateIn (now (s .entry))) .state)) (now (s .entry))) × (now (answer .exit) ≡ heldAfter (tickOf (stateIn (now (s .entry))) .refusal) (answerWords (tickOf (stateIn (now (s .entry))) .choice) (tickOf (stateIn (now (s .entry))) .handled)) (now (answer .entry))) ⌝ }
+    ensures refusal { λ r. ⌜ r ≡ tickOf (stateIn (now (s .entry))) .refusal ⌝ }
+    ensures state { λ _. ⌜ now (s .exit) ≡ heldState (tickOf (stateIn (now (s .entry)))) (now (s .entry)) ⌝ }
+    ensures answer { λ _. ⌜ now (answer .exit) ≡ heldAnswer (tickOf (stateIn (now (s .entry)))) (now (answer .entry)) ⌝ }
 {
     let t = scheduler::tick(words::state_in(s));
     let r = t.refusal;
@@ -178,7 +187,9 @@ pub extern "C" fn ribascenzo_arrive(
     task: u8,
     lost: &mut [u32; 1],
 ) -> Refusal
-    ensures { λ r. ⌜ (r ≡ arriveOf (stateIn (now (s .entry))) server task .refusal) × (now (s .exit) ≡ heldAfter (arriveOf (stateIn (now (s .entry))) server task .refusal) (stateWords (arriveOf (stateIn (now (s .entry))) server task .state)) (now (s .entry))) × (now (lost .exit) ≡ heldAfter (arriveOf (stateIn (now (s .entry))) server task .refusal) (arrivalNumber (arriveOf (stateIn (now (s .entry))) server task .arrival) ∷ []) (now (lost .entry))) ⌝ }
+    ensures refusal { λ r. ⌜ r ≡ arriveOf (stateIn (now (s .entry))) server task .refusal ⌝ }
+    ensures state { λ _. ⌜ now (s .exit) ≡ heldArrived (arriveOf (stateIn (now (s .entry))) server task) (now (s .entry)) ⌝ }
+    ensures lost { λ _. ⌜ now (lost .exit) ≡ heldLost (arriveOf (stateIn (now (s .entry))) server task) (now (lost .entry)) ⌝ }
 {
     let a = scheduler::arrive(words::state_in(s), server, task);
     let r = a.refusal;
@@ -192,7 +203,8 @@ pub extern "C" fn ribascenzo_arrive(
 
 #[no_mangle]
 pub extern "C" fn ribascenzo_budget(s: &[u32; STATE], server: u8, budget: &mut [u32; 1]) -> Refusal
-    ensures { λ r. ⌜ (r ≡ budgetRefusal (stateIn (now (s .entry))) server) × (now (budget .exit) ≡ heldAfter (budgetRefusal (stateIn (now (s .entry))) server) (entryAt (stateIn (now (s .entry))) server .budget .0 ∷ []) (now (budget .entry))) ⌝ }
+    ensures refusal { λ r. ⌜ r ≡ budgetRefusal (stateIn (now (s .entry))) server ⌝ }
+    ensures budget { λ _. ⌜ now (budget .exit) ≡ heldBudget (stateIn (now (s .entry))) server (now (budget .entry)) ⌝ }
 {
     let state = words::state_in(s);
     if !scheduler::sound(state) {
@@ -217,7 +229,8 @@ pub extern "C" fn ribascenzo_load(
     task: u8,
     load: &mut [u32; 2],
 ) -> Refusal
-    ensures { λ r. ⌜ (r ≡ loadRefusal (stateIn (now (s .entry))) server task) × (now (load .exit) ≡ heldAfter (loadRefusal (stateIn (now (s .entry))) server task) (loadWords (loadAt (stateIn (now (s .entry))) server task)) (now (load .entry))) ⌝ }
+    ensures refusal { λ r. ⌜ r ≡ loadRefusal (stateIn (now (s .entry))) server task ⌝ }
+    ensures load { λ _. ⌜ now (load .exit) ≡ heldLoad (stateIn (now (s .entry))) server task (now (load .entry)) ⌝ }
 {
     let state = words::state_in(s);
     if !scheduler::sound(state) {
@@ -244,7 +257,8 @@ pub extern "C" fn ribascenzo_load(
 
 #[no_mangle]
 pub extern "C" fn ribascenzo_setup_read(setup: &[u8], table: &mut [u32; TABLE]) -> Refusal
-    ensures { λ r. ⌜ (r ≡ setupOf longest mostWork (now (setup .entry)) .refusal) × (now (table .exit) ≡ heldAfter (setupOf longest mostWork (now (setup .entry)) .refusal) (tableWords (setupOf longest mostWork (now (setup .entry)) .table)) (now (table .entry))) ⌝ }
+    ensures refusal { λ r. ⌜ r ≡ setupOf longest mostWork (now (setup .entry)) .refusal ⌝ }
+    ensures table { λ _. ⌜ now (table .exit) ≡ heldTable (setupOf longest mostWork (now (setup .entry))) (now (table .entry)) ⌝ }
 {
     let r = setup::read(setup);
     let refusal = r.refusal;
@@ -260,7 +274,9 @@ pub extern "C" fn ribascenzo_setup_write(
     out: &mut [u8],
     written: &mut [u32; 1],
 ) -> Refusal
-    ensures { λ r. ⌜ (r ≡ (writeRefusal longest mostWork (tableIn (now (table .entry))) (length (now (out .entry))))) × (now (out .exit) ≡ bufferAfter (writeRefusal longest mostWork (tableIn (now (table .entry))) (length (now (out .entry)))) (bytesOf (tableIn (now (table .entry)))) (now (out .entry))) × (now (written .exit) ≡ heldAfter (writeRefusal longest mostWork (tableIn (now (table .entry))) (length (now (out .entry)))) (length (bytesOf (tableIn (now (table .entry)))) ∷ []) (now (written .entry))) ⌝ }
+    ensures refusal { λ r. ⌜ r ≡ writeRefusal longest mostWork (tableIn (now (table .entry))) (length (now (out .entry))) ⌝ }
+    ensures buffer { λ _. ⌜ now (out .exit) ≡ writtenTo longest mostWork (tableIn (now (table .entry))) (now (out .entry)) ⌝ }
+    ensures length { λ _. ⌜ now (written .exit) ≡ heldLength (tableIn (now (table .entry))) (length (now (out .entry))) (now (written .entry)) ⌝ }
 {
     let w = setup::write(words::table_in(table, 0), out);
     let r = w.refusal;
@@ -272,7 +288,8 @@ pub extern "C" fn ribascenzo_setup_write(
 
 #[no_mangle]
 pub extern "C" fn ribascenzo_message_read(bytes: &[u8], message: &mut [u32; 3]) -> Refusal
-    ensures { λ r. ⌜ (r ≡ readOf (now (bytes .entry)) .refusal) × (now (message .exit) ≡ heldAfter (readOf (now (bytes .entry)) .refusal) (messageWords (readOf (now (bytes .entry)) .message)) (now (message .entry))) ⌝ }
+    ensures refusal { λ r. ⌜ r ≡ readOf (now (bytes .entry)) .refusal ⌝ }
+    ensures message { λ _. ⌜ now (message .exit) ≡ heldMessage (readOf (now (bytes .entry))) (now (message .entry)) ⌝ }
 {
     let m = message::read(bytes);
     let r = m.refusal;
@@ -285,7 +302,8 @@ pub extern "C" fn ribascenzo_message_read(bytes: &[u8], message: &mut [u32; 3]) 
 
 #[no_mangle]
 pub extern "C" fn ribascenzo_message_write(kind: u8, a: u8, b: u8, out: &mut [u8]) -> Refusal
-    ensures { λ r. ⌜ (r ≡ messageRefusal kind (length (now (out .entry)))) × (now (out .exit) ≡ bufferAfter (messageRefusal kind (length (now (out .entry)))) (rawBytes kind a b) (now (out .entry))) ⌝ }
+    ensures refusal { λ r. ⌜ r ≡ messageRefusal kind (length (now (out .entry))) ⌝ }
+    ensures buffer { λ _. ⌜ now (out .exit) ≡ bufferAfter (messageRefusal kind (length (now (out .entry)))) (rawBytes kind a b) (now (out .entry)) ⌝ }
 {
     let w = message::write(kind, a, b, out);
     w.refusal

@@ -20,7 +20,8 @@ ghost use Rattle.queue.specs.Limits.{longest};
 ghost use Rattle.table.specs.Limits.{mostWork};
 ghost use Rattle.table.specs.Sound.{tableb};
 ghost use Rattle.scheduler.specs.Sound.{stateb};
-ghost use Rattle.port.specs.Words.{releaseIn, kindIn, cellIn, cellWord, queueIn, queueWords, loadIn, loadWords, entryIn, entryWords, taskIn, taskWords, serverIn, serverWords, tableIn, tableWords, stateIn, stateWords};
+ghost use Rattle.port.specs.Words.{cellIn, cellWord, queueIn, queueWords, loadIn, loadWords, entryIn, entryWords};
+ghost use Rattle.port.specs.Words.{releaseIn, taskIn, taskWords, kindIn, serverIn, serverWords, tableIn, tableWords, stateIn, stateWords};
 ghost use Rattle.port.specs.Layout.{wordLimit, queueSize, loadSize, entrySize, taskSize, serverSize, tableSize};
 
 // How many words each takes.

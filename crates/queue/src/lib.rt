@@ -18,7 +18,8 @@ ghost use Rattle.queue.specs.Holds.{inTicks, holdsb};
 ghost use Rattle.queue.specs.Calls.{acceptedWith, refusedWith, insertOf, removeOf, timeLeftOf, clockOf, takeOf, pushBackOf};
 ghost use Rattle.queue.specs.Lent.{tookOf, apartOf};
 ghost use Rattle.queue.specs.Steps.{firstCell};
-ghost use Rattle.queue.specs.Moves.{seenb, spacedb, gapsOf, sumOf, passOf, Passed, nextOf, Sought, nowhereFound, chainFor, chainTo, linkOf, linksOf, queueWith, movedTo, pushCells};
+ghost use Rattle.queue.specs.Moves.{seenb, spacedb, gapsOf, sumOf, passOf, Passed, nextOf, Sought, nowhereFound};
+ghost use Rattle.queue.specs.Moves.{chainFor, chainTo, linkOf, linksOf, queueWith, movedTo, pushCells};
 
 // An event (id 0 to 254) or a filler (id 255), with its gap to the cell before it. The first gap counts from now.
 #[repr(C)]

@@ -186,7 +186,8 @@ fn row_end(q: Queue) -> usize
     n
 }
 
-// Whether an event that comes this far behind the cell before place i is one cell, and changes no cell from there on but the next gap. `filler`: that cell is one.
+// Whether an event that comes this far behind the cell before place i is one cell, and changes no cell from there on but the next gap. `filler`: that cell
+// is one.
 fn plain(q: Queue, i: usize, gap: u32, filler: bool) -> bool
     requires { ⌜ («filler» ≡ false → q .len ≤ cellCount) ⌝ }
     ensures { λ r. ⌜ r ≡ pick «filler» false (plainb maxGap gap (drop i (cellsOf q))) ⌝ }

@@ -21,10 +21,11 @@ use Rattle.table.specs.declared.Table.{Table}
 use Rattle.table.proofs.Soundness.{table-sound}
 use Rattle.setup.specs.Layout.{taskBytes, headBytes, serverBytes, recordBytes, bytesOf}
 use Rattle.setup.specs.Read.{tableOf, readWith, readOf}
+use Rattle.setup.specs.Write.{writtenTo}
 use Rattle.setup.specs.declared.Reading.{Reading}
 use Rattle.setup.proofs.Accepted.{table-read, table-passes, table-sized, table-in-range, table-bytes, most-bytes, stated-length, all-bytes, read-passed, passed-read}
 use Rattle.setup.proofs.Refusals.{writeAnswer, write-accepted}
-use Rattle.setup.proofs.Unchanged.{writeBuffer, write-whole}
+use Rattle.setup.proofs.Unchanged.{write-whole}
 
 -- A SOUND TABLE, with its eight entries of eight
 module _ (D W : ℕ) (t : Table) (z : Sized t) (s : tableb D W t ≡ true) where
@@ -70,7 +71,7 @@ accepts-exactly D W d w bs b = (
 
 -- a table that the writer accepts is read from the bytes that it wrote
 pub written-read : (D W : ℕ) → D < 256 ^ 4 → W < 256 ^ 4 → (t : Table) → Sized t → (buf : List ℕ) → writeAnswer D W t (length buf) .refusal .number ≡ 0
-    → readOf D W (take (writeAnswer D W t (length buf) .length) (writeBuffer D W t buf)) ≡ readWith none t
+    → readOf D W (take (writeAnswer D W t (length buf) .length) (writtenTo D W t buf)) ≡ readWith none t
 written-read D W d w t z buf e =
     let (n, after) = write-whole D W t buf e in
     rw (n, after, take-append-seam (bytesOf t) (drop (length (bytesOf t)) buf)) (read-bytes D W t z (write-accepted D W t (length buf) .0 e .0) d w)
@@ -79,7 +80,7 @@ written-read D W d w t z buf e =
 pub read-written : (D W : ℕ) (bs : List ℕ) → Bytes bs → readOf D W bs .refusal .number ≡ 0 → (buf : List ℕ) → length bs ≤ length buf
     → let t = readOf D W bs .table in
     let answer = writeAnswer D W t (length buf) in
-    (answer .refusal .number ≡ 0) × (answer .length ≡ length bs) × (writeBuffer D W t buf ≡ bs ++ drop (length bs) buf)
+    (answer .refusal .number ≡ 0) × (answer .length ≡ length bs) × (writtenTo D W t buf ≡ bs ++ drop (length bs) buf)
 read-written D W bs b a buf h =
     let t = readOf D W bs .table in
     let e = bytes-read D W bs a b in

@@ -6,7 +6,8 @@ use Prim.Native.Nat.{ℕ, zero, suc, _+_, _*_}
 use lib.Dec.{leb, ltb, eqb}
 use lib.ListN.{length, drop}
 use Rattle.small.specs.Small.{pick, padded}
-use Rattle.refusal.specs.Numbers.{setupShort, lengthDiffers, setupVersion, serverCount, recordCut, serverKind, taskCount, periodRange, budgetRange, releaseKind, workRange, releaseTimes, bytesLeft}
+use Rattle.refusal.specs.Numbers.{setupShort, lengthDiffers, setupVersion, serverCount, bytesLeft}
+use Rattle.refusal.specs.Numbers.{recordCut, serverKind, taskCount, periodRange, budgetRange, releaseKind, workRange, releaseTimes}
 use Rattle.refusal.specs.Refusal.{none, Check, check, checkAt, firstOf}
 use Rattle.refusal.specs.declared.Refusal.{Refusal}
 use Rattle.field.specs.Field.{byteOf, fieldOf}

@@ -7,6 +7,7 @@ use lib.ListN.{length}
 use Rattle.refusal.specs.Numbers.{unsound, bufferShort}
 use Rattle.refusal.specs.Refusal.{Check, check, firstOf}
 use Rattle.refusal.specs.declared.Refusal.{Refusal}
+use Rattle.field.specs.Write.{bufferAfter}
 use Rattle.table.specs.Sound.{tableb}
 use Rattle.table.specs.declared.Table.{Table}
 use Rattle.setup.specs.Layout.{bytesOf}
@@ -16,3 +17,7 @@ writeChecks D W t n = check unsound (not (tableb D W t)) ∷ check bufferShort (
 
 abbrev pub writeRefusal : ℕ → ℕ → Table → ℕ → Refusal
 writeRefusal D W t n = firstOf (writeChecks D W t n)
+
+-- what a buffer then holds
+abbrev pub writtenTo : ℕ → ℕ → Table → List ℕ → List ℕ
+writtenTo D W t buf = bufferAfter (writeRefusal D W t (length buf)) (bytesOf t) buf

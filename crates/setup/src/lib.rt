@@ -16,14 +16,14 @@ ghost use Prim.Native.Nat.{_+_, _≤_};
 ghost use lib.ListN.{length, drop, take};
 ghost use Rattle.refusal.specs.Refusal.{firstOf, refused};
 ghost use Rattle.field.specs.Field.{over};
-ghost use Rattle.field.specs.Write.{written, bufferAfter};
+ghost use Rattle.field.specs.Write.{written};
 ghost use Rattle.queue.specs.Limits.{longest};
 ghost use Rattle.table.specs.Limits.{mostWork, entries};
 ghost use Rattle.table.specs.Table.{zeroServer, zeroTable};
 ghost use Rattle.table.specs.Sound.{rangeb, tableb};
 ghost use Rattle.setup.specs.Layout.{taskBytes, serverBytes, recordBytes, bytesOf};
 ghost use Rattle.setup.specs.Read.{taskChecks, taskOf, headChecks, startChecks, readWith, readOf};
-ghost use Rattle.setup.specs.Write.{writeRefusal};
+ghost use Rattle.setup.specs.Write.{writeRefusal, writtenTo};
 ghost use Rattle.setup.specs.Moves.{tasksReadOf, serverWith, serverReadOf, serversReadOf};
 
 // The table that a setup gives, or why it gives none: then the table is all zero.
@@ -314,7 +314,8 @@ fn task_at(s: &[u8], k: usize) -> Task
 
 // Writes the table's bytes at the start of a lent buffer.
 pub fn write(t: Table, out: &mut [u8]) -> Written
-    ensures { λ r. ⌜ (r ≡ written (writeRefusal longest mostWork t (length (now (out .entry)))) (bytesOf t)) × (now (out .exit) ≡ bufferAfter (writeRefusal longest mostWork t (length (now (out .entry)))) (bytesOf t) (now (out .entry))) ⌝ }
+    ensures answer { λ r. ⌜ r ≡ written (writeRefusal longest mostWork t (length (now (out .entry)))) (bytesOf t) ⌝ }
+    ensures buffer { λ _. ⌜ now (out .exit) ≡ writtenTo longest mostWork t (now (out .entry)) ⌝ }
 {
     if !table::sound(t) {
         return Written::refused(Refusal::UNSOUND);

@@ -26,12 +26,12 @@ returns c =
     let n = c .before .before .before in
     let t = n .before in
     let k = t .before .before .before in
-    rw (← k .before .state-in .ensures, ← k .arrive .ensures, t .if1 .taken, n .arrival-number .ensures) (refl, c .put-state .ensures, refl)
+    rw (← k .before .state-in .ensures, ← k .arrive .ensures, t .if1 .taken, n .arrival-number .ensures) (refl, (c .put-state .ensures, refl))
 
 returns-2 : tie.Need-returns-2
 returns-2 c =
     let k = c .before .before .before in
-    rw (← k .before .state-in .ensures, ← k .arrive .ensures, ne-eqb _ 0 (c .if1 .left)) (refl, refl, refl)
+    rw (← k .before .state-in .ensures, ← k .arrive .ensures, ne-eqb _ 0 (c .if1 .left)) (refl, (refl, refl))
 
 pub ribascenzo-arrive-spec : {M : Type 1} → statement M
 ribascenzo-arrive-spec =

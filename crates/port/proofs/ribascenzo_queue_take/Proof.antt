@@ -48,16 +48,14 @@ put-queue-requires c κs =
 returns : tie.Need-returns
 returns c =
     let t = c .before .before .before .before .before .before in
-    let accepted = c .before .before .before .if1 .taken in (
-      refusal t,
-      queue-stored _ _ (sound t) _ _ (refusal t) (queue t) accepted _ _ (omega arith) (c .put-queue .ensures),
-      ap (λ (x : Taken). x .id ∷ []) (answers t) ∙ sym (held-new _ _ (refusal t) _ _ accepted),
-    )
+    let accepted = c .before .before .before .if1 .taken in
+    let queue-is = queue-stored _ _ (sound t) _ _ (refusal t) (queue t) accepted _ _ (omega arith) (c .put-queue .ensures) in
+    (refusal t, (queue-is, ap (λ (x : Taken). x .id ∷ []) (answers t) ∙ sym (held-new _ _ (refusal t) _ _ accepted)))
 
 returns-2 : tie.Need-returns-2
 returns-2 c =
     let t = c .before .before .before in
-    (refusal t, sym (held-old _ _ (refusal t) _ _ (c .if1 .left)), sym (held-old _ _ (refusal t) _ _ (c .if1 .left)))
+    (refusal t, (sym (held-old _ _ (refusal t) _ _ (c .if1 .left)), sym (held-old _ _ (refusal t) _ _ (c .if1 .left))))
 
 pub ribascenzo-queue-take-spec : {M : Type 1} → statement M
 ribascenzo-queue-take-spec =

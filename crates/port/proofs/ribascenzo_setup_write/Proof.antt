@@ -10,7 +10,7 @@ use Rattle.field.specs.Write.{written}
 use Rattle.queue.specs.Limits.{longest}
 use Rattle.table.specs.Limits.{mostWork}
 use Rattle.setup.specs.Layout.{bytesOf}
-use Rattle.setup.specs.Write.{writeRefusal}
+use Rattle.setup.specs.Write.{writeRefusal, writtenTo}
 use Rattle.port.specs.Words.{tableIn}
 use Rattle.port.proofs.Storing.{held-old}
 use Rattle.port.proofs.Answering.{table-refusal, table-word, table-told}
@@ -34,6 +34,9 @@ module _ (c : tie.After-write) where
   refusal : c .write .result .refusal ≡ writeRefusal longest mostWork (tableIn table) room
   refusal = table-refusal table room (c .write .result) answer
 
+  buffer : c .write .last .1 .0 ≡ writtenTo longest mostWork (tableIn table) (start .args .out .now)
+  buffer = rw (← c .before .before .table-in .ensures) (c .write .ensures .1)
+
 table-in-requires : tie.Need-table-in-requires
 table-in-requires c κs = search needs
 
@@ -51,22 +54,16 @@ same-length c = search needs
 returns : tie.Need-returns
 returns c =
     let t = c .before .before in
-    let k = t .before .before .before .before .before in (
-      refusal k,
-      rw (← k .before .before .table-in .ensures) (k .write .ensures .1),
-      table-told _ _ (k .write .result) (answer k) (t .if1 .taken) _,
-    )
+    let k = t .before .before .before .before .before in
+    (refusal k, (buffer k, table-told _ _ (k .write .result) (answer k) (t .if1 .taken) _))
 
 same-length-2 : tie.Need-same-length-2
 same-length-2 c = search needs
 
 returns-2 : tie.Need-returns-2
 returns-2 c =
-    let k = c .before .before .before .before .before in (
-      refusal k,
-      rw (← k .before .before .table-in .ensures) (k .write .ensures .1),
-      sym (held-old (k .write .result .refusal) _ (refusal k) _ _ (c .if1 .left)),
-    )
+    let k = c .before .before .before .before .before in
+    (refusal k, (buffer k, sym (held-old (k .write .result .refusal) _ (refusal k) _ _ (c .if1 .left))))
 
 pub ribascenzo-setup-write-spec : {M : Type 1} → statement M
 ribascenzo-setup-write-spec =

@@ -40,12 +40,12 @@ returns c =
       c .before .before .before .before .chosen-server .ensures,
       c .before .before .before .chosen-task .ensures,
     )
-    (refl, c .put-state .ensures, refl)
+    (refl, (c .put-state .ensures, refl))
 
 returns-2 : tie.Need-returns-2
 returns-2 c =
     let k = c .before .before .before in
-    rw (← k .before .state-in .ensures, ← k .tick .ensures, ne-eqb _ 0 (c .if1 .left)) (refl, refl, refl)
+    rw (← k .before .state-in .ensures, ← k .tick .ensures, ne-eqb _ 0 (c .if1 .left)) (refl, (refl, refl))
 
 pub ribascenzo-tick-spec : {M : Type 1} → statement M
 ribascenzo-tick-spec =

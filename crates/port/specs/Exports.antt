@@ -21,12 +21,11 @@ use Rattle.message.specs.declared.Reading.{Reading}
 use Rattle.message.specs.declared.Message.{Message}
 use Rattle.message.specs.declared.Message.the-variants.{Run, Arrival}
 use Rattle.port.specs.Words.{queueWords, loadWords, tableWords, stateWords}
-use Rattle.scheduler.specs.State.{serverAt, entryAt}
+use Rattle.scheduler.specs.State.{serverAt, entryAt, loadAt}
 use Rattle.scheduler.specs.Sound.{stateb}
 use Rattle.scheduler.specs.Choice.{choiceNumber}
 use Rattle.scheduler.specs.Arrive.{arrivalNumber}
 use Rattle.scheduler.specs.Fresh.{freshOf}
-use Rattle.scheduler.specs.Meaning.{loadAt}
 use Rattle.scheduler.specs.declared.State.{State}
 use Rattle.scheduler.specs.declared.Ticked.{Ticked}
 use Rattle.scheduler.specs.declared.Arrived.{Arrived}

@@ -12,7 +12,7 @@ use words::QUEUE;
 use words::STATE;
 use words::TABLE;
 ghost use mathlib.Core.Path.{_≡_};
-ghost use mathlib.Core.List.{[], _∷_};
+ghost use mathlib.Core.List.{[]};
 ghost use lib.ListN.{length};
 ghost use Rattle.field.specs.Write.{bufferAfter};
 ghost use Rattle.queue.specs.Limits.{maxGap, longest};

@@ -24,10 +24,10 @@ use Rattle.queue.specs.declared.Queue.{Queue}
 use Rattle.queue.proofs.Normal.{proper-events}
 use Rattle.queue.proofs.Cells.{made-row}
 use Rattle.queue.proofs.Form.{normb-normal}
-use Rattle.queue.proofs.Soundness.{sound-is, sound-cells, sound-again, sound-full}
+use Rattle.queue.proofs.SoundLaws.{sound-is, sound-cells, sound-again, sound-full, empty-events}
 use Rattle.queue.proofs.Refusals.{remove-accepted}
 use Rattle.queue.proofs.Unchanged.{insert-unchanged, remove-unchanged, clock-unchanged, take-unchanged, push-back-unchanged}
-use Rattle.queue.proofs.Keeps.{empty-sound, empty-events}
+use Rattle.queue.proofs.Keeps.{empty-sound}
 use Rattle.queue.proofs.DueTimes.{there, insert-others, remove-others, clock-others, take-first, take-others, push-back-others}
 use Rattle.port.specs.Layout.{queueSize}
 use Rattle.port.specs.Words.{word, manyIn, cellIn, cellWord, queueIn, queueWords}

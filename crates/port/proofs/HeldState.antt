@@ -15,7 +15,7 @@ use Rattle.small.proofs.All.{All}
 use Rattle.queue.specs.Limits.{maxGap, longest}
 use Rattle.queue.specs.Row.{Event, eventsOf}
 use Rattle.queue.specs.declared.Queue.{Queue}
-use Rattle.queue.proofs.Soundness.{sound-is, sound-full}
+use Rattle.queue.proofs.SoundLaws.{sound-is, sound-full}
 use Rattle.table.specs.Limits.{mostWork, entries}
 use Rattle.table.specs.Table.{ticks, releaseNumber, periodOf, offsetOf}
 use Rattle.table.specs.Sound.{releaseb, tableb}

@@ -16,7 +16,7 @@ use Rattle.queue.specs.Limits.{cellCount, maxGap, longest}
 use Rattle.queue.specs.Sound.{soundb}
 use Rattle.queue.specs.Holds.{holdsb}
 use Rattle.queue.specs.declared.Queue.{Queue}
-use Rattle.queue.proofs.Soundness.{sound-is, sound-full}
+use Rattle.queue.proofs.SoundLaws.{sound-is, sound-full}
 use Rattle.table.specs.Limits.{mostWork, entries}
 use Rattle.table.specs.Sound.{rangeb, kindb, releaseb, taskb, arrivalb, zeroTaskb, serverb, zeroServerb, tableb}
 use Rattle.table.specs.declared.Release.{Release}

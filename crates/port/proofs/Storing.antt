@@ -19,7 +19,7 @@ use Rattle.queue.specs.Calls.{insertOf, removeOf, clockOf, takeOf, pushBackOf}
 use Rattle.queue.specs.declared.Cell.{Cell}
 use Rattle.queue.specs.declared.Queue.{Queue}
 use Rattle.queue.specs.declared.Changed.{Changed}
-use Rattle.queue.proofs.Soundness.{sound-is, sound-full}
+use Rattle.queue.proofs.SoundLaws.{sound-is, sound-full}
 use Rattle.queue.proofs.Refusals.{insert-accepted, remove-accepted, clock-accepted, take-accepted, push-back-accepted}
 use Rattle.queue.proofs.Keeps.{insert-sound, remove-sound, clock-sound, take-sound, push-back-sound}
 use Rattle.port.specs.Layout.{wordLimit, queueSize}

@@ -18,10 +18,11 @@ use Rattle.queue.specs.Calls.{findChecks}
 use Rattle.queue.specs.Calls.{insertOf, removeOf, timeLeftOf, clockOf, takeOf, pushBackOf}
 use Rattle.queue.specs.declared.Queue.{Queue}
 use Rattle.queue.proofs.Normal.{sorted, sorted-events}
-use Rattle.queue.proofs.Soundness.{sound-is}
+use Rattle.queue.proofs.SoundLaws.{sound-is}
 use Rattle.queue.proofs.Events.{with-has, with-distance, with-new, without-has, without-distance, without-gone, earlier-has, earlier-distance, later-has, later-distance, due-first}
 use Rattle.queue.proofs.Refusals.{insert-accepted, remove-accepted, clock-accepted, take-accepted}
-use Rattle.queue.proofs.Keeps.{left-next, insert-events, remove-events, clock-events, take-id, take-events, push-back-events}
+use Rattle.queue.proofs.Answers.{left-next}
+use Rattle.queue.proofs.Laws.{insert-events, remove-events, clock-events, take-id, take-events, push-back-events}
 
 -- an event with the id j is there, and how far away it is
 abbrev pub there : ℕ → Queue → Bool
@@ -52,7 +53,7 @@ sorted-beyond : (d t : ℕ) (es : List Event) → d < t → sorted t es → allB
 sorted-beyond d t [] h s = tt
 sorted-beyond d t (e ∷ es) h s = (omega (arith, s .0), sorted-beyond d (e .at) es (omega (arith, s .0)) (s .1))
 
-pub with-split : (t : ℕ) (x : Event) (es : List Event) → sorted t es → PutIn x es (withEvent x es)
+with-split : (t : ℕ) (x : Event) (es : List Event) → sorted t es → PutIn x es (withEvent x es)
 with-split t x [] s = record { before = []; behind = []; old = refl; new = refl; within = tt; beyond = tt }
 with-split t x (e ∷ es) s = go (leb (e .at) (x .at)) refl (with-split (e .at) x es (s .1))
   where

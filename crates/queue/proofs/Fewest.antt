@@ -16,7 +16,7 @@ use Rattle.queue.specs.declared.Cell.{Cell}
 use Rattle.queue.specs.declared.Queue.{Queue}
 use Rattle.queue.proofs.Cells.{made-len}
 use Rattle.queue.proofs.Normal.{cells-count, fillers-grow}
-use Rattle.queue.proofs.Soundness.{sound-is}
+use Rattle.queue.proofs.SoundLaws.{sound-is}
 
 -- every gap of a row is at most M
 abbrev pub fits : ℕ → List Cell → Type 0

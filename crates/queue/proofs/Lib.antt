@@ -1,7 +1,20 @@
+-- PROMISED: what docs/ASSURANCE.md names
+pub mod Refusals
+pub mod Unchanged
+pub mod OneOutcome
+pub mod Soundness
+pub mod Keeps
+pub mod Laws
+pub mod DueTimes
+pub mod Room
+pub mod Fewest
+pub mod Same
+pub mod Points
+-- WHAT ONLY SERVES
 pub mod Cells
 pub mod Normal
 pub mod Form
-pub mod Soundness
+pub mod SoundLaws
 pub mod Events
 pub mod Scan
 pub mod Holding
@@ -11,13 +24,5 @@ pub mod Ticking
 pub mod Placing
 pub mod Passing
 pub mod Pushing
-pub mod Same
-pub mod OneOutcome
-pub mod Refusals
-pub mod Unchanged
-pub mod Keeps
-pub mod DueTimes
-pub mod Fewest
-pub mod Words
-pub mod Room
-pub mod Points
+pub mod Answers
+pub mod Making

@@ -25,7 +25,7 @@ use Rattle.queue.specs.declared.Queue.{Queue}
 use Rattle.queue.specs.declared.Next.{Next}
 use Rattle.queue.proofs.Cells.{made-len, made-past, cells-length, cells-step, cells-end}
 use Rattle.queue.proofs.Normal.{sorted, proper, sorted-events, proper-events}
-use Rattle.queue.proofs.Soundness.{Sound, sound-cells}
+use Rattle.queue.proofs.SoundLaws.{Sound, sound-cells}
 use Rattle.queue.proofs.Events.{with-more, without-fewer}
 use Rattle.queue.proofs.Moving.{chain-cells}
 

@@ -22,7 +22,7 @@ use Rattle.queue.specs.declared.Queue.{Queue}
 use Rattle.queue.proofs.Cells.{cells-length, cells-step, made-row, made-len}
 use Rattle.queue.proofs.Normal.{chain-of, one-cell, split, proper-events}
 use Rattle.queue.proofs.Form.{normb-normal}
-use Rattle.queue.proofs.Soundness.{Sound, sound-cells, sound-full}
+use Rattle.queue.proofs.SoundLaws.{Sound, sound-cells, sound-full}
 use Rattle.queue.proofs.Scan.{near-end}
 
 -- THE CELLS

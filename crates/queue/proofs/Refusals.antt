@@ -9,42 +9,27 @@ use lib.Dec.{ltb}
 use lib.ListN.{length}
 use borrow.Author.Tests.{eq-eqb, ne-eqb, eqb-true, eqb-false, lt-ltb, le-ltb, ltb-true, ltb-false, not-true, not-false}
 use Rattle.refusal.specs.Numbers.{idOfFiller, idThere, delayTooLong, noRoom, noSuchEvent, eventDue, nothingDue, atLongest, unsound}
-use Rattle.refusal.specs.Refusal.{none, Check, check, firstOf}
-use Rattle.refusal.specs.declared.Refusal.{Refusal}
-use Rattle.refusal.proofs.Decided.{Decided, decided}
+use Rattle.refusal.specs.Refusal.{Check, check, firstOf}
 use Rattle.refusal.proofs.Exactly.{number-when, none-when, no-place}
 use Rattle.queue.specs.Limits.{cellCount, filler}
 use Rattle.queue.specs.Row.{Event, event, cellsOf, eventsOf, normal}
 use Rattle.queue.specs.Sound.{soundb, hasb}
-use Rattle.queue.specs.Calls.{changed, acceptedWith, taken, takenWith, leftAfter, leftWith, withEvent, later, dueb, farb}
+use Rattle.queue.specs.Calls.{withEvent, later, dueb, farb}
 use Rattle.queue.specs.Calls.{insertChecks, findChecks, clockChecks, takeChecks, pushChecks}
 use Rattle.queue.specs.Calls.{insertOf, removeOf, timeLeftOf, clockOf, takeOf, pushBackOf}
 use Rattle.queue.specs.Steps.{placeCells, placeStep}
 use Rattle.queue.specs.declared.Queue.{Queue}
-use Rattle.queue.specs.declared.Changed.{Changed}
-use Rattle.queue.specs.declared.Taken.{Taken}
-use Rattle.queue.specs.declared.Left.{Left}
 use Rattle.queue.proofs.Normal.{proper-events}
 use Rattle.queue.proofs.Events.{no-filler}
+use Rattle.queue.proofs.Answers.{changed-decided, taken-decided, left-decided}
 
 -- how many cells the normal form of events needs
 abbrev pub cellsNeeded : ℕ → List Event → ℕ
 cellsNeeded M es = length (normal M 0 es)
 
 -- no event has the id of a filler
-pub filler-absent : (q : Queue) → hasb filler (eventsOf q) ≡ false
+filler-absent : (q : Queue) → hasb filler (eventsOf q) ≡ false
 filler-absent q = no-filler (eventsOf q) (proper-events 0 (cellsOf q))
-
--- What each kind of answer says of its refusal
-
-pub changed-decided : (r : Refusal) (q next : Queue) → Decided (λ (c : Changed). c .refusal) r (acceptedWith next) (record { refusal = r; queue = q }) (changed r q next)
-changed-decided r q next = decided (λ (c : Changed). c .refusal) r _ _ (changed r q next) refl refl refl
-
-pub taken-decided : (r : Refusal) (q : Queue) (id : ℕ) (next : Queue) → Decided (λ (t : Taken). t .refusal) r (takenWith none id next) (takenWith r 0 q) (taken r q id next)
-taken-decided r q id next = decided (λ (t : Taken). t .refusal) r _ _ (taken r q id next) refl refl refl
-
-pub left-decided : (r : Refusal) (d : ℕ) → Decided (λ (l : Left). l .refusal) r (leftWith none d) (leftWith r 0) (leftAfter r d)
-left-decided r d = decided (λ (l : Left). l .refusal) r _ _ (leftAfter r d) refl refl refl
 
 -- INSERT
 

@@ -19,7 +19,7 @@ use Rattle.queue.specs.Calls.{acceptedWith, refusedWith, takenWith, dueb
 use Rattle.queue.specs.Steps.{firstCell, dueStep, emptyStep, lessHead, nearerStep, restStep, tickStep, fallsStep, placeStep}
 use Rattle.queue.specs.declared.Cell.{Cell}
 use Rattle.queue.specs.declared.Queue.{Queue}
-use Rattle.queue.proofs.Soundness.{sound-is, sound-again}
+use Rattle.queue.proofs.SoundLaws.{sound-is, sound-again}
 use Rattle.queue.proofs.Placing.{place-step}
 use Rattle.queue.proofs.Ticking.{sound-due, sound-tick, sound-rest, sound-first}
 

@@ -20,7 +20,7 @@ use Rattle.queue.specs.declared.Queue.{Queue}
 use Rattle.queue.proofs.Cells.{cells-length, made-cells}
 use Rattle.queue.proofs.Normal.{proper, proper-events}
 use Rattle.queue.proofs.Form.{normb-is, normb-normal}
-use Rattle.queue.proofs.Soundness.{same-queue}
+use Rattle.queue.proofs.SoundLaws.{same-queue}
 use Rattle.queue.proofs.Events.{no-filler}
 
 -- no id is above that of a filler: one that is a gap more than it belongs to a filler with gap 0

@@ -19,7 +19,7 @@ use Rattle.queue.specs.declared.Cell.{Cell}
 use Rattle.queue.specs.declared.Queue.{Queue}
 use Rattle.queue.proofs.Cells.{made-cells, made-len, made-row, made-past}
 use Rattle.queue.proofs.Normal.{sorted, proper, sorted-events, proper-events, chain-of, one-cell, split}
-use Rattle.queue.proofs.Soundness.{Sound}
+use Rattle.queue.proofs.SoundLaws.{Sound}
 use Rattle.queue.proofs.Events.{normal-earlier, not-due, due-later, due-first}
 
 -- ON ARRAYS: what the stores of a loop come to

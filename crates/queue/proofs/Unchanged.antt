@@ -1,35 +1,21 @@
 -- "A refusal answers its number, the place (0 where none is named below) and zero in every other part; a queue, state or table handed in comes back as
 -- it was, unsound ones too." That the place is 0 stands in Refusals. Assumes nothing.
-use mathlib.Core.Path.{_≡_, ap}
+use mathlib.Core.Path.{_≡_}
 use mathlib.Core.Logic.{_≢_}
 use mathlib.Core.List.{_++_}
 use Prim.Native.Nat.{ℕ}
 use lib.ListN.{length, drop}
 use Rattle.refusal.specs.Refusal.{firstOf}
-use Rattle.refusal.specs.declared.Refusal.{Refusal}
 use Rattle.queue.specs.Row.{event, cellsOf, eventsOf}
 use Rattle.queue.specs.Calls.{formed, withEvent, withoutEvent, distanceOf, earlier, dueId, withoutDue, later}
 use Rattle.queue.specs.Calls.{insertChecks, findChecks, clockChecks, takeChecks, pushChecks}
-use Rattle.queue.specs.Calls.{changed, taken, leftAfter}
 use Rattle.queue.specs.Calls.{insertOf, removeOf, timeLeftOf, clockOf, takeOf, pushBackOf}
 use Rattle.queue.specs.Steps.{placeCells, placeStep}
 use Rattle.queue.specs.declared.Queue.{Queue}
-use Rattle.queue.specs.declared.Changed.{Changed}
-use Rattle.queue.specs.declared.Taken.{Taken}
-use Rattle.queue.specs.declared.Left.{Left}
-use Rattle.queue.proofs.Refusals.{changed-decided, taken-decided, left-decided, placeChecks}
+use Rattle.queue.proofs.Refusals.{placeChecks}
+use Rattle.queue.proofs.Answers.{changed-kept, taken-kept, left-kept}
 
--- of each kind of answer: the queue as it was, the id and the distance zero
-pub changed-kept : (r : Refusal) (q next : Queue) → changed r q next .refusal .number ≢ 0 → changed r q next .queue ≡ q
-changed-kept r q next h = ap (λ (c : Changed). c .queue) (changed-decided r q next .refused h .1)
-
-pub taken-kept : (r : Refusal) (q : Queue) (id : ℕ) (next : Queue) → let t = taken r q id next in t .refusal .number ≢ 0 → (t .id ≡ 0) × (t .queue ≡ q)
-taken-kept r q id next h = let e = taken-decided r q id next .refused h .1 in (ap (λ (t : Taken). t .id) e, ap (λ (t : Taken). t .queue) e)
-
-pub left-kept : (r : Refusal) (d : ℕ) → leftAfter r d .refusal .number ≢ 0 → leftAfter r d .distance .0 ≡ 0
-left-kept r d h = ap (λ (l : Left). l .distance .0) (left-decided r d .refused h .1)
-
--- and of each call
+-- of each call
 module _ (M D : ℕ) (q : Queue) where
   pub insert-unchanged : (id delay : ℕ) → insertOf M D q id delay .refusal .number ≢ 0 → insertOf M D q id delay .queue ≡ q
   unfolding insertOf

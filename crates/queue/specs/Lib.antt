@@ -1,3 +1,4 @@
+-- BELIEVED: the definitions that contracts and promises speak of
 pub mod Limits
 pub mod Row
 pub mod Sound
@@ -6,5 +7,6 @@ pub mod Holds
 pub mod Calls
 pub mod Lent
 pub mod Steps
-pub mod Moves
 pub mod Edge
+-- WHAT ONLY SERVES: what private functions give
+pub mod Moves

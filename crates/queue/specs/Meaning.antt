@@ -1,5 +1,5 @@
 -- "A queue alone is sound if it is in normal form, its events' ids differ, no distance is above 1,000,000, and cells past the last are zero": the document's
--- words, cell by cell. M is the largest gap and D the longest distance. `queue-sound` (proofs/Words.antt) says that the test `soundb` holds exactly of the
+-- words, cell by cell. M is the largest gap and D the longest distance. `queue-sound` (proofs/Soundness.antt) says that the test `soundb` holds exactly of the
 -- queues that are sound in these words.
 use mathlib.Core.Path.{_≡_}
 use mathlib.Core.Logic.{_≢_}

@@ -16,10 +16,11 @@ use Rattle.queue.specs.Sound.{hasb, distinctb, soundb}
 use Rattle.queue.specs.Calls.{withEvent, distanceOf, dueb, earlier, clockOf, takeOf, insertOf}
 use Rattle.queue.specs.declared.Queue.{Queue}
 use Rattle.queue.specs.declared.Changed.{Changed}
-use Rattle.queue.proofs.Soundness.{sound-is}
+use Rattle.queue.proofs.SoundLaws.{sound-is}
 use Rattle.queue.proofs.Events.{with-length}
 use Rattle.queue.proofs.Refusals.{clock-accepted, take-accepted}
-use Rattle.queue.proofs.Keeps.{clock-sound, clock-events, take-sound, insert-sound, insert-events}
+use Rattle.queue.proofs.Laws.{clock-events, insert-events}
+use Rattle.queue.proofs.Keeps.{clock-sound, take-sound, insert-sound}
 use Rattle.queue.proofs.DueTimes.{there, away, clock-others, take-first, take-others, insert-others, insert-new}
 use Rattle.queue.proofs.Room.{room-for-eight}
 use Rattle.table.specs.Limits.{entries}

@@ -17,10 +17,10 @@ use Rattle.queue.specs.Sound.{hasb, soundb}
 use Rattle.queue.specs.Calls.{withEvent, distanceOf, insertOf}
 use Rattle.queue.specs.declared.Queue.{Queue}
 use Rattle.queue.proofs.Normal.{sorted-events}
-use Rattle.queue.proofs.Soundness.{sound-is}
+use Rattle.queue.proofs.SoundLaws.{sound-is, empty-events}
 use Rattle.queue.proofs.Events.{with-length, with-sorted, with-near}
 use Rattle.queue.proofs.Refusals.{insert-accepted}
-use Rattle.queue.proofs.Keeps.{empty-sound, empty-events, insert-sound}
+use Rattle.queue.proofs.Keeps.{empty-sound, insert-sound}
 use Rattle.queue.proofs.DueTimes.{there, away, insert-others, insert-new}
 use Rattle.queue.proofs.Room.{room}
 use Rattle.table.specs.Limits.{mostWork, entries}

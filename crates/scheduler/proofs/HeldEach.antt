@@ -16,7 +16,7 @@ use Rattle.queue.specs.Sound.{hasb, distinctb, soundb}
 use Rattle.queue.specs.Holds.{withinb, presentb, holdsb}
 use Rattle.queue.specs.Calls.{withoutEvent, distanceOf, dueb, dueId, withoutDue}
 use Rattle.queue.specs.declared.Queue.{Queue}
-use Rattle.queue.proofs.Soundness.{sound-is}
+use Rattle.queue.proofs.SoundLaws.{sound-is}
 use Rattle.queue.proofs.Normal.{sorted-events}
 use Rattle.queue.proofs.Events.{without-has, without-distinct, without-gone, due-first}
 use Rattle.queue.proofs.DueTimes.{there, away}

@@ -17,10 +17,11 @@ use Rattle.queue.specs.Sound.{hasb, distinctb, soundb}
 use Rattle.queue.specs.Holds.{holdsb}
 use Rattle.queue.specs.Calls.{dueb, earlier}
 use Rattle.queue.specs.declared.Queue.{Queue}
-use Rattle.queue.proofs.Soundness.{sound-is}
+use Rattle.queue.proofs.SoundLaws.{sound-is}
 use Rattle.queue.proofs.Events.{not-due}
 use Rattle.queue.proofs.Refusals.{clock-accepted}
-use Rattle.queue.proofs.Keeps.{clock-sound, clock-events}
+use Rattle.queue.proofs.Laws.{clock-events}
+use Rattle.queue.proofs.Keeps.{clock-sound}
 use Rattle.table.specs.Limits.{entries}
 use Rattle.table.specs.Table.{periodOf, zeroServer}
 use Rattle.table.specs.declared.Server.{Server}

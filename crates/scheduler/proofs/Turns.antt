@@ -20,7 +20,8 @@ use Rattle.queue.specs.declared.Queue.{Queue}
 use Rattle.queue.specs.declared.Changed.{Changed}
 use Rattle.queue.proofs.Events.{with-length}
 use Rattle.queue.proofs.Refusals.{take-accepted, clock-accepted}
-use Rattle.queue.proofs.Keeps.{insert-events, insert-sound, clock-events, clock-sound, take-sound}
+use Rattle.queue.proofs.Laws.{insert-events, clock-events}
+use Rattle.queue.proofs.Keeps.{insert-sound, clock-sound, take-sound}
 use Rattle.queue.proofs.DueTimes.{take-first, take-gone}
 use Rattle.queue.proofs.Room.{room-for-eight}
 use Rattle.queue.proofs.Same.{clock-step, take-step, insert-step}

@@ -20,8 +20,8 @@ use Rattle.queue.specs.Sound.{sameb, soundb, hasb}
 use Rattle.queue.specs.Meaning.{SoundQueue}
 use Rattle.queue.specs.Holds.{holdsb}
 use Rattle.queue.specs.declared.Queue.{Queue}
-use Rattle.queue.proofs.Soundness.{sound-is}
-use Rattle.queue.proofs.Words.{queue-sound}
+use Rattle.queue.proofs.SoundLaws.{sound-is}
+use Rattle.queue.proofs.Soundness.{queue-sound}
 use Rattle.queue.proofs.DueTimes.{there, away}
 use Rattle.table.specs.Kind.{pollingKind}
 use Rattle.table.specs.Limits.{mostWork, entries}

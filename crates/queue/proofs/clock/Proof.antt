@@ -8,7 +8,7 @@ use Rattle.queue.specs.Limits.{maxGap, longest}
 use Rattle.queue.specs.Row.{eventsOf}
 use Rattle.queue.specs.Sound.{soundb}
 use Rattle.queue.specs.Calls.{acceptedWith, clockOf, dueb}
-use Rattle.queue.proofs.Soundness.{Sound, sound-is}
+use Rattle.queue.proofs.SoundLaws.{Sound, sound-is}
 use Rattle.queue.proofs.Ticking.{sound-due, sound-tick}
 use Rattle.queue.proofs.clock.Statement.{statement}
 use Rattle.queue.proofs.clock.Tie as tie

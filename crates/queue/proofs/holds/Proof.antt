@@ -12,7 +12,7 @@ use Rattle.queue.specs.Row.{cell, cellsOf, eventsFrom}
 use Rattle.queue.specs.Sound.{soundb}
 use Rattle.queue.specs.Holds.{inTicks, withinb, holdsb}
 use Rattle.queue.proofs.Cells.{cells-step, cells-end}
-use Rattle.queue.proofs.Soundness.{sound-is}
+use Rattle.queue.proofs.SoundLaws.{sound-is}
 use Rattle.queue.proofs.Scan.{cells-past}
 use Rattle.queue.proofs.Holding.{ticks-length, Looked, looked-none, looked-out, looked-more, seen-present}
 use Rattle.queue.proofs.holds.Statement.{statement}

@@ -9,7 +9,7 @@ use Rattle.queue.specs.Limits.{maxGap, longest, filler}
 use Rattle.queue.specs.Row.{eventsOf}
 use Rattle.queue.specs.Sound.{soundb, hasb}
 use Rattle.queue.specs.Calls.{insertOf}
-use Rattle.queue.proofs.Soundness.{Sound, sound-is}
+use Rattle.queue.proofs.SoundLaws.{Sound, sound-is}
 use Rattle.queue.proofs.Placing.{place-step}
 use Rattle.queue.proofs.insert.Statement.{statement}
 use Rattle.queue.proofs.insert.Tie as tie

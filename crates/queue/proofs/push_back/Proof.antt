@@ -10,7 +10,7 @@ use Rattle.queue.specs.Limits.{maxGap, longest}
 use Rattle.queue.specs.Row.{queueOf, eventsOf, normal}
 use Rattle.queue.specs.Sound.{soundb}
 use Rattle.queue.specs.Calls.{acceptedWith, overfull, later, farb, pushBackOf}
-use Rattle.queue.proofs.Soundness.{Sound, sound-is, sound-again}
+use Rattle.queue.proofs.SoundLaws.{Sound, sound-is, sound-again}
 use Rattle.queue.proofs.Pushing.{push-events, push-overfull, far-end}
 use Rattle.queue.proofs.push_back.Statement.{statement}
 use Rattle.queue.proofs.push_back.Tie as tie

@@ -16,7 +16,7 @@ use Rattle.queue.specs.Calls.{acceptedWith, formed, withoutEvent, remove
 use Rattle.queue.specs.Moves.{linksOf, behindOf, removeCells, movedTo}
 use Rattle.queue.specs.declared.Cell.{Cell}
 use Rattle.queue.proofs.Cells.{made-again, cells-length}
-use Rattle.queue.proofs.Soundness.{Sound, sound-is, sound-full}
+use Rattle.queue.proofs.SoundLaws.{Sound, sound-is, sound-full}
 use Rattle.queue.proofs.Moving.{sets-before, sets-behind, made-sets, links-length}
 use Rattle.queue.proofs.Placing.{Following, following, remove-sound, remove-fewer}
 use Rattle.queue.proofs.remove.Statement.{statement}

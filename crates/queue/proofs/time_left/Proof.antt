@@ -6,7 +6,7 @@ use borrow.Author.Tests.{not-true, not-false}
 use Rattle.queue.specs.Limits.{maxGap, longest}
 use Rattle.queue.specs.Sound.{soundb}
 use Rattle.queue.specs.Calls.{timeLeftOf}
-use Rattle.queue.proofs.Soundness.{sound-is}
+use Rattle.queue.proofs.SoundLaws.{sound-is}
 use Rattle.queue.proofs.time_left.Statement.{statement}
 use Rattle.queue.proofs.time_left.Tie as tie
 

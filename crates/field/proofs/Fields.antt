@@ -1,13 +1,12 @@
--- Laws of big-endian fields, over any width w: a field that is written reads back, one that is read writes the same bytes; and of writing over a buffer.
--- Assumes nothing.
+-- Laws of bytes, of big-endian fields of any width w, and of writing over a buffer. Assumes nothing.
 use mathlib.Core.Path.{_≡_, refl, sym, ap, _∙_}
 use mathlib.Core.Bool.{Bool, true, false}
 use mathlib.Core.List.{List, [], _∷_, _++_, append-assoc}
-use Prim.Native.Nat.{ℕ, zero, suc, _+_, _*_, _/_, _%_, _^_, _≤_, _<_}
-use native.Mathlib.Nat.{add-zero, zero-add, add-assoc, mod-lt, mod-eq-of-lt, one-le-pow, pow-succ', mul-assoc, mul-add-div-right, mul-add-mod-self-right, le-of-suc-le-suc, not-suc-le-zero}
+use Prim.Native.Nat.{ℕ, zero, suc, _+_, _*_, _/_, _^_, _≤_, _<_}
+use native.Mathlib.Nat.{add-zero, zero-add, add-assoc, mod-lt, one-le-pow, pow-succ'}
 use native.Mathlib.Numerals.{add-one}
 use native.Mathlib.Omega.{arith}
-use lib.Arith.{digits-lt, digits-div, mod-mul}
+use lib.Arith.{digits-lt}
 use lib.Dec.{leb}
 use lib.ListN.{length, take, drop, length-append, length-drop, take-append-drop, List·getD-eq-default}
 use lib.Seq.{sets, sets-eq, length-take-le, take-at, drop-at, drop-drop, getD-drop}
@@ -38,7 +37,7 @@ byte-below (x ∷ xs) p = p .0
 
 -- FIELDS
 
-positive : (w : ℕ) → 0 < 256 ^ w
+pub positive : (w : ℕ) → 0 < 256 ^ w
 positive w = one-le-pow w 256 (omega arith)
 
 pub length-big : (w n : ℕ) → length (big w n) ≡ w
@@ -52,29 +51,6 @@ big-bytes (suc w) n = (mod-lt (n / 256 ^ w) (omega arith), big-bytes w n)
 pub field-below : (w : ℕ) (bs : List ℕ) → Bytes bs → fieldOf w bs < 256 ^ w
 field-below zero bs p = positive 0
 field-below (suc w) bs p = rw pow-succ' (digits-lt (byte-below bs p) (field-below w (drop 1 bs) (bytes-drop 1 bs p)))
-
--- of a number that has more bytes, w bytes hold the lowest
-pub field-lowest : (w n : ℕ) (rest : List ℕ) → fieldOf w (big w n ++ rest) ≡ n % 256 ^ w
-field-lowest zero n rest = omega (arith, mod-lt n (positive 0))
-field-lowest (suc w) n rest = rw (pow-succ', mod-mul n {m = 256} {c = 256 ^ w} (omega arith) (positive w), field-lowest w n rest)
-
--- WRITTEN, THEN READ: the number
-pub field-big : (w n : ℕ) → n < 256 ^ w → (rest : List ℕ) → fieldOf w (big w n ++ rest) ≡ n
-field-big w n h rest = field-lowest w n rest ∙ mod-eq-of-lt h
-
--- bytes above the lowest w are not written
-big-lowest : (w q n : ℕ) → big w (q * 256 ^ w + n) ≡ big w n
-big-lowest zero q n = refl
-big-lowest (suc w) q n =
-    let e : q * 256 ^ suc w ≡ q * 256 * 256 ^ w = rw pow-succ' (sym (mul-assoc q 256 (256 ^ w))) in
-    rw (e, mul-add-div-right (positive w), mul-add-mod-self-right, big-lowest w (q * 256) n)
-
--- READ, THEN WRITTEN: the bytes
-pub big-field : (w : ℕ) (bs : List ℕ) → Bytes bs → w ≤ length bs → big w (fieldOf w bs) ≡ take w bs
-big-field zero bs p h = refl
-big-field (suc w) [] p h = absurd (not-suc-le-zero h)
-big-field (suc w) (b ∷ bs) p h =
-    rw (digits-div b (field-below w bs (p .1)), mod-eq-of-lt (p .0), big-lowest w b (fieldOf w bs), big-field w bs (p .1) (le-of-suc-le-suc h))
 
 -- what stands past the end reads as 0
 pub byte-past : (at k : ℕ) (bs : List ℕ) → length bs ≤ at + k → byteOf k (drop at bs) ≡ 0

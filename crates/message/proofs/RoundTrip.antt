@@ -12,7 +12,8 @@ use Rattle.refusal.specs.Refusal.{none}
 use Rattle.refusal.specs.declared.Refusal.{Refusal}
 use Rattle.field.specs.Field.{byteOf, big}
 use Rattle.field.specs.Bytes.{Bytes}
-use Rattle.field.proofs.Fields.{bytes-drop, big-bytes, field-below, field-big, big-field}
+use Rattle.field.proofs.RoundTrip.{field-big, big-field}
+use Rattle.field.proofs.Fields.{bytes-drop, big-bytes, field-below}
 use Rattle.message.specs.Message.{kindOf, valuesOf, framed, rawBytes, bytesOf, readWith, readOf}
 use Rattle.message.specs.Meaning.{Fits, writtenTo}
 use Rattle.message.specs.declared.Message.{Message}

@@ -20,7 +20,8 @@ use Rattle.refusal.proofs.Exactly.{Passed, passes}
 use Rattle.refusal.proofs.Joined.{passed-join, passed-parts, passed-none, Ranged, ranged-join, ranged-wider, ranged-numbered}
 use Rattle.field.specs.Field.{byteOf, fieldOf, big}
 use Rattle.field.specs.Bytes.{Bytes}
-use Rattle.field.proofs.Fields.{field-big, big-bytes, bytes-append, bytes-drop}
+use Rattle.field.proofs.RoundTrip.{field-big}
+use Rattle.field.proofs.Fields.{big-bytes, bytes-append, bytes-drop}
 use Rattle.table.specs.Limits.{entries}
 use Rattle.table.specs.Table.{zeroServer, zeroTable}
 use Rattle.table.specs.Meaning.{SoundTable, Sized}

@@ -18,7 +18,8 @@ use Rattle.refusal.proofs.Exactly.{Passed}
 use Rattle.refusal.proofs.Joined.{passed-join, passed-parts}
 use Rattle.field.specs.Field.{byteOf, fieldOf, big}
 use Rattle.field.specs.Bytes.{Bytes}
-use Rattle.field.proofs.Fields.{field-big, big-field, big-bytes, bytes-append, bytes-drop}
+use Rattle.field.proofs.RoundTrip.{field-big, big-field}
+use Rattle.field.proofs.Fields.{big-bytes, bytes-append, bytes-drop}
 use Rattle.table.specs.Limits.{entries}
 use Rattle.table.specs.Table.{ticks, releaseNumber, periodOf, offsetOf, zeroTask}
 use Rattle.table.specs.Sound.{rangeb}

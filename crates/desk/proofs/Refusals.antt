@@ -25,7 +25,7 @@ use Rattle.message.specs.Message.{kindOf, readWith, readChecks, readOf}
 use Rattle.message.specs.declared.Message.{Message}
 use Rattle.message.specs.declared.Message.the-variants.{Run, Arrival}
 use Rattle.message.specs.declared.Reading.{Reading}
-use Rattle.message.proofs.Refusals.{read-decided}
+use Rattle.message.proofs.Answers.{read-decided}
 use Rattle.message.proofs.Unchanged.{read-zero}
 use Rattle.scheduler.specs.Sound.{stateb}
 use Rattle.scheduler.specs.Arrive.{arrivalNumber, arriveChecks, arriveOf}

@@ -1,5 +1,8 @@
-pub mod Cases
-pub mod OneOutcome
+-- PROMISED: what docs/ASSURANCE.md names
 pub mod Refusals
 pub mod Unchanged
+pub mod OneOutcome
 pub mod RoundTrip
+-- WHAT ONLY SERVES
+pub mod Cases
+pub mod Answers

@@ -9,15 +9,14 @@ use lib.ListN.{length, drop}
 use borrow.Author.Tests.{eq-eqb, ne-eqb, eqb-true, eqb-false, lt-ltb, le-ltb, ltb-true, ltb-false, not-true, not-false}
 use Rattle.small.specs.Small.{pick}
 use Rattle.refusal.specs.Numbers.{messageCut, messageLength, messageVersion, messageKind, bufferShort}
-use Rattle.refusal.specs.Refusal.{none, Check, firstOf}
-use Rattle.refusal.proofs.Decided.{Decided, decided}
+use Rattle.refusal.specs.Refusal.{Check, firstOf}
 use Rattle.refusal.proofs.Exactly.{number-when, none-when, no-place}
 use Rattle.field.specs.Field.{byteOf, fieldOf}
-use Rattle.field.proofs.Answers.{written-number, written-place}
-use Rattle.message.specs.Message.{zeroMessage, readWith, messageOf, readChecks, readOf, rawBytes, writeChecks, writeRefusal}
+use Rattle.field.proofs.Answers.{written-place}
+use Rattle.message.specs.Message.{readChecks, readOf, rawBytes, writeChecks, writeRefusal}
 use Rattle.message.specs.Meaning.{writeOf}
-use Rattle.message.specs.declared.Reading.{Reading}
 use Rattle.message.proofs.Cases.{other-kind, known-kind}
+use Rattle.message.proofs.Answers.{read-decided, write-number}
 
 -- a number that stands twice: the first of its checks holds, or it does not and those after it give the number
 first-or-after : (c : Check) (cs : List Check) → firstOf (c ∷ cs) .number ≡ c .refusal .number
@@ -36,13 +35,8 @@ first-or-after c cs = (forth (c .holds) refl, back)
 -- READ
 
 module _ (bs : List ℕ) where
-  -- what the answer says of its refusal
-  pub read-decided : let r = firstOf (readChecks bs) in Decided (λ (x : Reading). x .refusal) r (readWith none (messageOf bs)) (readWith r zeroMessage) (readOf bs)
-  unfolding readOf
-  read-decided = decided (λ (x : Reading). x .refusal) (firstOf (readChecks bs)) _ _ (readOf bs) refl refl refl
-
   read-number : readOf bs .refusal .number ≡ firstOf (readChecks bs) .number
-  read-number = read-decided .number
+  read-number = read-decided bs .number
 
   -- "message not whole": "under 2 bytes 14, then 15, under 6 bytes 14"
   pub read-14 : readOf bs .refusal .number ≡ messageCut ↔ ((length bs < 2) ⊎ ((2 ≤ length bs) × (length bs < 6) × (fieldOf 2 bs ≡ 6)))
@@ -101,32 +95,29 @@ module _ (bs : List ℕ) where
 
   -- "the place (0 where none is named below)"
   pub read-place : readOf bs .refusal .place ≡ 0
-  read-place = read-decided .place (no-place (readChecks bs) refl)
+  read-place = read-decided bs .place (no-place (readChecks bs) refl)
 
 -- WRITE, into a buffer
 
 module _ (kind a b : ℕ) (buf : List ℕ) where
-  pub write-number : writeOf kind a b buf .refusal .number ≡ firstOf (writeChecks kind (length buf)) .number
-  write-number = written-number (writeRefusal kind (length buf)) (rawBytes kind a b)
-
   -- "The message writer takes any two bytes; a kind not 1 or 2 is 17"
   pub write-17 : writeOf kind a b buf .refusal .number ≡ messageKind ↔ (kind ≢ 1) × (kind ≢ 2)
   write-17 =
-      number-when _ (writeChecks kind (length buf)) write-number 0 refl refl
+      number-when _ (writeChecks kind (length buf)) (write-number kind a b buf) 0 refl refl
       (λ h. other-kind kind .0 (h .1))
       (λ h. (tt, other-kind kind .1 h))
 
   -- "buffer too short for what is written", and 32 last
   pub write-32 : writeOf kind a b buf .refusal .number ≡ bufferShort ↔ ((kind ≡ 1) ⊎ (kind ≡ 2)) × (length buf < 6)
   write-32 =
-      number-when _ (writeChecks kind (length buf)) write-number 1 refl refl
+      number-when _ (writeChecks kind (length buf)) (write-number kind a b buf) 1 refl refl
       (λ h. (known-kind kind .0 (h .0 .0), ltb-true (length buf) 6 (h .1)))
       (λ h. ((known-kind kind .1 (h .0), tt), lt-ltb (length buf) 6 (h .1)))
 
   -- and no refusal exactly when no test holds
   pub write-accepted : writeOf kind a b buf .refusal .number ≡ 0 ↔ ((kind ≡ 1) ⊎ (kind ≡ 2)) × (6 ≤ length buf)
   write-accepted =
-      none-when _ (writeChecks kind (length buf)) write-number refl
+      none-when _ (writeChecks kind (length buf)) (write-number kind a b buf) refl
       (λ h. (known-kind kind .0 (h .0), ltb-false (length buf) 6 (h .1 .0)))
       (λ h. (known-kind kind .1 (h .0), (le-ltb (length buf) 6 (h .1), tt)))
 

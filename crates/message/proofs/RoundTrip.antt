@@ -47,7 +47,7 @@ known (Run n) = inl refl
 known (Arrival s t) = inr refl
 
 -- and a buffer that has room holds them
-pub message-buffer : (m : Message) (a b : ℕ) (buf : List ℕ) → valuesOf m ≡ a ∷ b ∷ [] → 6 ≤ length buf → writtenTo (kindOf m) a b buf ≡ bytesOf m ++ drop 6 buf
+message-buffer : (m : Message) (a b : ℕ) (buf : List ℕ) → valuesOf m ≡ a ∷ b ∷ [] → 6 ≤ length buf → writtenTo (kindOf m) a b buf ≡ bytesOf m ++ drop 6 buf
 message-buffer m a b buf e h =
     write-rest (kindOf m) a b buf (write-accepted (kindOf m) a b buf .1 (known m, h)) ∙ ap (λ (l : List ℕ). l ++ drop 6 buf) (write-message m a b e)
 

@@ -9,7 +9,8 @@ use Rattle.field.proofs.Answers.{written-none, written-whole, buffer-same, buff
 use Rattle.message.specs.Message.{zeroMessage, readOf, rawBytes, writeRefusal}
 use Rattle.message.specs.Meaning.{writeOf, writtenTo}
 use Rattle.message.specs.declared.Reading.{Reading}
-use Rattle.message.proofs.Refusals.{read-decided, write-number, write-accepted}
+use Rattle.message.proofs.Answers.{read-decided, write-number}
+use Rattle.message.proofs.Refusals.{write-accepted}
 
 -- "zero in every other part (the zero of a choice is .. run 0)"
 pub read-zero : (bs : List ℕ) → readOf bs .refusal .number ≢ 0 → readOf bs .message ≡ zeroMessage

@@ -18,7 +18,7 @@ use Rattle.field.specs.declared.Written.{Written}
 use Rattle.field.proofs.Fields.{over-fits, over-length, over-nil, over-over, over-past, over-sets}
 use Rattle.lines.specs.Decimal.{digit}
 use Rattle.lines.specs.Lines.{putOf}
-use Rattle.lines.proofs.Decimals.{lowest, lowest-length}
+use Rattle.lines.proofs.DecimalLaws.{lowest, lowest-length}
 
 -- PIECE BEHIND PIECE
 

@@ -1,16 +1,14 @@
 -- "Given exactly when", for every text that is put into a buffer from a place on: the header, a message's line, the lines of a batch and the end
 -- (`header`, `message_line`, `ticks` and `end` answer `putOf` and leave `over` of their text). Assumes nothing.
 use mathlib.Core.Path.{_≡_, refl}
-use mathlib.Core.List.{List, _++_}
+use mathlib.Core.List.{List}
 use mathlib.Core.Logic.{_↔_}
 use Prim.Native.Nat.{ℕ, _+_, _≤_, _<_}
-use lib.ListN.{length, take, drop}
+use lib.ListN.{length}
 use borrow.Author.Tests.{lt-ltb, le-ltb, ltb-true, ltb-false}
 use Rattle.refusal.specs.Numbers.{bufferShort}
 use Rattle.refusal.specs.Refusal.{firstOf}
 use Rattle.refusal.proofs.Exactly.{number-when, none-when, no-place}
-use Rattle.field.specs.Field.{over}
-use Rattle.field.proofs.Fields.{over-fits, over-past}
 use Rattle.field.proofs.Answers.{written-number, written-place}
 use Rattle.lines.specs.Lines.{putChecks, putOf}
 
@@ -35,12 +33,3 @@ module _ (at : ℕ) (text buf : List ℕ) where
   -- "the place (0 where none is named below)"
   pub put-place : putOf at text buf .refusal .place ≡ 0
   put-place = written-place (firstOf (putChecks at text (length buf))) text (no-place (putChecks at text (length buf)) refl)
-
-  -- "zero in every other part": refused, no byte is written, and the buffer is as it was
-  pub put-refused : length buf < at + length text → (putOf at text buf .length ≡ 0) × (over at text buf ≡ buf)
-  put-refused h = (rw (lt-ltb (length buf) (at + length text) h), over-past at text buf h)
-
-  -- else the text stands from the place on. "Writers leave bytes past the output unchanged", and before it
-  pub put-whole : at + length text ≤ length buf
-      → (putOf at text buf .length ≡ length text) × (over at text buf ≡ take at buf ++ (text ++ drop (at + length text) buf))
-  put-whole h = (rw (le-ltb (length buf) (at + length text) h), over-fits at text buf h)

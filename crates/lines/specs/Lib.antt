@@ -1,2 +1,3 @@
+-- BELIEVED: the definitions that contracts and promises speak of
 pub mod Decimal
 pub mod Lines

@@ -9,7 +9,8 @@ use borrow.Author.Needs.{needs}
 use Rattle.field.proofs.Fields.{over-sets}
 use Rattle.lines.specs.Lines.{space}
 use Rattle.lines.specs.Decimal.{decimal}
-use Rattle.lines.proofs.Decimals.{decimal-length, decimal-one}
+use Rattle.lines.proofs.DecimalLaws.{decimal-one}
+use Rattle.lines.proofs.Decimals.{decimal-length}
 use Rattle.lines.proofs.Pieces.{puts-two, puts-length}
 use Rattle.lines.proofs.mark.Statement.{statement}
 use Rattle.lines.proofs.mark.Tie as tie

@@ -9,7 +9,8 @@ use borrow.Author.Needs.{needs}
 use Rattle.field.specs.Field.{over}
 use Rattle.field.proofs.Fields.{over-nil}
 use Rattle.lines.specs.Decimal.{decimal}
-use Rattle.lines.proofs.Decimals.{decimal-length, decimal-lowest, lowest}
+use Rattle.lines.proofs.DecimalLaws.{decimal-lowest, lowest}
+use Rattle.lines.proofs.Decimals.{decimal-length}
 use Rattle.lines.proofs.Pieces.{number-step}
 use Rattle.lines.proofs.number.Statement.{statement}
 use Rattle.lines.proofs.number.Tie as tie

@@ -6,7 +6,7 @@ use native.Mathlib.Nat.{pow-suc, pow-le-pow-right}
 use native.Mathlib.Numerals.{add-one}
 use native.Mathlib.Omega.{arith}
 use Rattle.lines.specs.Decimal.{mostDigits}
-use Rattle.lines.proofs.Decimals.{decimal-places, word-below}
+use Rattle.lines.proofs.DecimalLaws.{decimal-places, word-below}
 use Rattle.lines.proofs.places.Statement.{statement}
 use Rattle.lines.proofs.places.Tie as tie
 

@@ -24,7 +24,7 @@ use Rattle.table.specs.declared.Release.the-variants.{OnArrival, Periodic}
 use Rattle.table.specs.declared.Task.{Task}
 use Rattle.table.specs.declared.Server.{Server}
 use Rattle.table.specs.declared.Table.{Table}
-use Rattle.table.proofs.Soundness.{kind-known}
+use Rattle.table.proofs.SoundLaws.{kind-known}
 use Rattle.scheduler.specs.State.{serverAt, entryAt, zeroEntry}
 use Rattle.scheduler.specs.Sound.{taskReaches, serverReaches, loadb, zeroLoadb, entryb, entriesb, stateb}
 use Rattle.scheduler.specs.Meaning.{SizedState}

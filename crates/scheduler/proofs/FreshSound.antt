@@ -31,7 +31,7 @@ use Rattle.table.specs.declared.Release.the-variants.{OnArrival, Periodic}
 use Rattle.table.specs.declared.Task.{Task}
 use Rattle.table.specs.declared.Server.{Server}
 use Rattle.table.specs.declared.Table.{Table}
-use Rattle.table.proofs.Soundness.{range-within, zero-task}
+use Rattle.table.proofs.SoundLaws.{range-within, zero-task}
 use Rattle.scheduler.specs.State.{mostPending, zeroLoad, zeroEntry, serverAt, taskAt, loadAt}
 use Rattle.scheduler.specs.Polling.{lapsed}
 use Rattle.scheduler.specs.Sound.{releaseReach, taskReaches, serverReaches, loadb, zeroLoadb, entryb, entriesb, allSpentb, stateb}

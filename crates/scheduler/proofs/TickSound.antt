@@ -25,7 +25,7 @@ use Rattle.table.specs.declared.Release.the-variants.{OnArrival, Periodic}
 use Rattle.table.specs.declared.Task.{Task}
 use Rattle.table.specs.declared.Server.{Server}
 use Rattle.table.specs.declared.Table.{Table}
-use Rattle.table.proofs.Soundness.{range-within}
+use Rattle.table.proofs.SoundLaws.{range-within}
 use Rattle.scheduler.specs.State.{mostPending, mostLost, load, withBudget, serverAt, taskAt}
 use Rattle.scheduler.specs.Sound.{releaseReach, taskReaches, serverReaches, loadb, zeroLoadb, entryb, spentb, entriesb, allSpentb, stateb}
 use Rattle.scheduler.specs.Choice.{firstPending, chosenOf, choiceOf}

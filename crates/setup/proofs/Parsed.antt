@@ -28,7 +28,7 @@ use Rattle.table.specs.declared.Release.{Release}
 use Rattle.table.specs.declared.Release.the-variants.{OnArrival, Periodic}
 use Rattle.table.specs.declared.Task.{Task}
 use Rattle.table.specs.declared.Server.{Server}
-use Rattle.table.proofs.Soundness.{range-within, kind-known}
+use Rattle.table.proofs.SoundLaws.{range-within, kind-known}
 use Rattle.setup.specs.Layout.{taskBytes, headBytes, serverBytes}
 use Rattle.setup.specs.Read.{taskSize, periodWrong, offsetWrong, taskChecks, releaseOf, taskOf, tasksChecks, tasksOf}
 use Rattle.setup.specs.Read.{headSize, headChecks, serverSize, serverChecks, serverOf, serversChecks, serversOf, serversSize}

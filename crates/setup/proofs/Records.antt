@@ -19,7 +19,7 @@ use Rattle.field.specs.Field.{byteOf, fieldOf}
 use Rattle.table.specs.Limits.{entries}
 use Rattle.table.specs.Meaning.{Within}
 use Rattle.table.specs.Sound.{rangeb, kindb}
-use Rattle.table.proofs.Soundness.{range-within, kind-known}
+use Rattle.table.proofs.SoundLaws.{range-within, kind-known}
 use Rattle.setup.specs.Read.{taskSize, periodWrong, offsetWrong, taskChecks, tasksChecks, headSize, headChecks, serverChecks, serversChecks, startChecks}
 use Rattle.setup.specs.Records.{Rec, taskRecords, serverRecords, recordsOf, checksOf, fourAt}
 use Rattle.setup.specs.Records.{StartRight, RecordRight, AllRight}

@@ -1,75 +1,42 @@
 -- What the tests of a table say, in the words of specs/Meaning.antt, over any longest distance D and any most work W. Assumes nothing.
 use mathlib.Core.Path.{_≡_, refl, sym, ap, _∙_}
-use mathlib.Core.Bool.{Bool, true, false}
-use mathlib.Core.Logic.{_↔_, inl, inr}
+use mathlib.Core.Bool.{true}
+use mathlib.Core.Logic.{_↔_}
 use Prim.Native.Nat.{ℕ, _≤_}
 use native.Mathlib.Omega.{arith}
 use lib.Dec.{leb, eqb}
 use lib.ListN.{length, getD, replicate, getD-replicate}
 use lib.Seq.{ext-getD}
 use borrow.Author.Tests.{leb-true, eqb-true, le-leb}
-use Rattle.small.specs.Small.{pick}
 use Rattle.small.proofs.Tests.{both-left, both-right}
 use Rattle.small.proofs.Used.{Each, each-from, each-to}
-use Rattle.table.specs.Kind.{idlingKind, deferrableKind, pollingKind}
 use Rattle.table.specs.Limits.{entries}
 use Rattle.table.specs.Table.{zeroTask, zeroServer}
-use Rattle.table.specs.Sound.{rangeb, releaseb, taskb, arrivalb, zeroTaskb, kindb, serverb, zeroServerb, tableb}
-use Rattle.table.specs.Meaning.{KnownKind, Within, SoundRelease, SoundTask, SoundServer, SoundTable, Sized}
+use Rattle.table.specs.Sound.{rangeb, releaseb, taskb, zeroTaskb, kindb, serverb, zeroServerb, tableb}
+use Rattle.table.specs.Meaning.{Within, SoundRelease, SoundTask, SoundServer, SoundTable, Sized}
 use Rattle.table.specs.declared.Release.{Release}
 use Rattle.table.specs.declared.Release.the-variants.{OnArrival, Periodic}
 use Rattle.table.specs.declared.Task.{Task}
 use Rattle.table.specs.declared.Server.{Server}
 use Rattle.table.specs.declared.Table.{Table}
+use Rattle.table.proofs.SoundLaws.{range-within, kind-known, zero-task}
 
 -- THE TESTS IN WORDS
 
-pub range-within : (least most x : ℕ) → rangeb least most x ≡ true ↔ Within least most x
-range-within least most x = (
-  λ e. record { low = leb-true least x (both-left _ _ e); high = leb-true x most (both-right (leb least x) _ e) },
-  λ w. rw (le-leb least x (w .low), le-leb x most (w .high)),
-)
-
-pub kind-known : (k : ℕ) → kindb k ≡ true ↔ KnownKind k
-kind-known k = (forth (eqb k idlingKind) (eqb k deferrableKind) refl refl, back)
-  where
-    forth : (a b : Bool) → eqb k idlingKind ≡ a → eqb k deferrableKind ≡ b → pick a true (pick b true (eqb k pollingKind)) ≡ true → KnownKind k
-    forth true b p q h = inl (eqb-true k idlingKind p)
-    forth false true p q h = inr (inl (eqb-true k deferrableKind q))
-    forth false false p q h = inr (inr (eqb-true k pollingKind h))
-
-    back : KnownKind k → kindb k ≡ true
-    back (inl e) = rw e
-    back (inr (inl e)) = rw e
-    back (inr (inr e)) = rw e
-
-pub release-sound : (D : ℕ) (r : Release) → releaseb D r ≡ true ↔ SoundRelease D r
+release-sound : (D : ℕ) (r : Release) → releaseb D r ≡ true ↔ SoundRelease D r
 release-sound D OnArrival = (λ e. tt, λ u. refl)
 release-sound D (Periodic T O) = (
   λ e. record { period = range-within 1 D (T .0) .0 (both-left _ _ e); offset = leb-true (O .0) D (both-right (rangeb 1 D (T .0)) _ e) },
   λ w. rw (range-within 1 D (T .0) .1 (w .period), le-leb (O .0) D (w .offset)),
 )
 
-pub task-sound : (D W : ℕ) (t : Task) → taskb D W t ≡ true ↔ SoundTask D W t
+task-sound : (D W : ℕ) (t : Task) → taskb D W t ≡ true ↔ SoundTask D W t
 task-sound D W t = (
   λ e. record { work = range-within 1 W (t .work .0) .0 (both-left _ _ e); release = release-sound D (t .release) .0 (both-right (rangeb 1 W (t .work .0)) _ e) },
   λ w. rw (range-within 1 W (t .work .0) .1 (w .work)) (release-sound D (t .release) .1 (w .release)),
 )
 
-arrival-is : (r : Release) → arrivalb r ≡ true → r ≡ OnArrival
-arrival-is OnArrival e = refl
-arrival-is (Periodic T O) e = cc
-
-pub zero-task : (t : Task) → zeroTaskb t ≡ true ↔ (t ≡ zeroTask)
-zero-task t = (forth, λ e. ap zeroTaskb e)
-  where
-    forth : zeroTaskb t ≡ true → t ≡ zeroTask
-    forth e =
-        let w : t .work .0 ≡ 0 = eqb-true (t .work .0) 0 (both-left _ _ e) in
-        let r : t .release ≡ OnArrival = arrival-is (t .release) (both-right (eqb (t .work .0) 0) _ e) in
-        λ j. record { work = record { 0 = w j }; release = r j }
-
-pub zero-server : (s : Server) → length (s .tasks) ≡ entries → zeroServerb s ≡ true ↔ (s ≡ zeroServer)
+zero-server : (s : Server) → length (s .tasks) ≡ entries → zeroServerb s ≡ true ↔ (s ≡ zeroServer)
 zero-server s full = (forth, λ e. ap zeroServerb e)
   where
     forth : zeroServerb s ≡ true → s ≡ zeroServer
@@ -86,7 +53,7 @@ zero-server s full = (forth, λ e. ap zeroServerb e)
         ext-getD zeroTask (s .tasks) (replicate entries zeroTask) full λ i h. zero-task (getD (s .tasks) i zeroTask) .0 (each .unused i (omega arith) h) ∙ sym (getD-replicate entries i zeroTask zeroTask (omega arith)) in
         λ j. record { tasks = ts j; count = n j; kind = k j; period = record { 0 = p j }; budget = record { 0 = q j } }
 
-pub server-sound : (D W : ℕ) (s : Server) → length (s .tasks) ≡ entries → serverb D W s ≡ true ↔ SoundServer D W s
+server-sound : (D W : ℕ) (s : Server) → length (s .tasks) ≡ entries → serverb D W s ≡ true ↔ SoundServer D W s
 server-sound D W s full = (forth, back)
   where
     forth : serverb D W s ≡ true → SoundServer D W s

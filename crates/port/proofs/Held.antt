@@ -1,39 +1,29 @@
--- Queues in words, both ways: the words of a queue are read as that queue; and words that are read as a sound queue are the words of that queue, since a word
--- above 16,777,215 is read as a filler of gap 0, which no sound queue has. So what a call leaves in the words, the next call reads. Assumes nothing.
-use mathlib.Core.Path.{_≡_, refl, sym, ap, subst, _∙_}
+-- Queues in words, whatever stands behind them, both ways: the words of a queue are read as that queue; and words that are read as a sound queue are the words of
+-- that queue, since a word above 16,777,215 is read as a filler of gap 0, which no sound queue has. Assumes nothing.
+use mathlib.Core.Path.{_≡_, refl, ap, subst}
 use mathlib.Core.Bool.{Bool, true, false}
-use mathlib.Core.List.{List, [], _∷_, _++_, append-nil}
-use mathlib.Core.Logic.{_≢_}
-use Prim.Native.Nat.{ℕ, zero, suc, _+_, _-_, _/_, _%_, _≤_, _<_}
+use mathlib.Core.List.{List, [], _∷_, _++_}
+use Prim.Native.Nat.{ℕ, _+_, _-_, _/_, _%_, _≤_, _<_}
 use native.Mathlib.Omega.{arith}
 use lib.Dec.{leb, ltb, eqb}
-use lib.ListN.{length, take, drop}
-use lib.Seq.{take-all}
-use borrow.Author.Tests.{le-ltb, ltb-false, leb-true, eqb-true, eqb-false, eq-eqb}
+use lib.ListN.{length, take}
+use borrow.Author.Tests.{le-ltb, leb-true, eqb-true, eq-eqb}
 use Rattle.small.specs.Small.{pick, each}
-use Rattle.small.proofs.Tests.{both-left, both-right, either-true, contrary}
-use Rattle.small.proofs.All.{All, all-first, all-both, all-append, all-replicate}
-use Rattle.refusal.specs.declared.Refusal.{Refusal}
+use Rattle.small.proofs.Tests.{both-left, both-right}
+use Rattle.small.proofs.All.{All, all-both, all-append, all-replicate}
 use Rattle.queue.specs.Limits.{cellCount, filler, maxGap, longest}
-use Rattle.queue.specs.Row.{Event, event, cell, cellsOf, queueOf, eventAt, eventsFrom, eventsOf}
-use Rattle.queue.specs.Sound.{hasb, soundb}
-use Rattle.queue.specs.Calls.{insertOf, removeOf, clockOf, takeOf, pushBackOf}
+use Rattle.queue.specs.Row.{Event, event, cell, cellsOf, eventsFrom, eventsOf}
+use Rattle.queue.specs.Sound.{soundb}
 use Rattle.queue.specs.Moves.{spacedb, normb}
 use Rattle.queue.specs.declared.Cell.{Cell}
 use Rattle.queue.specs.declared.Queue.{Queue}
 use Rattle.queue.proofs.Normal.{proper-events}
 use Rattle.queue.proofs.Cells.{made-row}
 use Rattle.queue.proofs.Form.{normb-normal}
-use Rattle.queue.proofs.SoundLaws.{sound-is, sound-cells, sound-again, sound-full, empty-events}
-use Rattle.queue.proofs.Refusals.{remove-accepted}
-use Rattle.queue.proofs.Unchanged.{insert-unchanged, remove-unchanged, clock-unchanged, take-unchanged, push-back-unchanged}
-use Rattle.queue.proofs.Keeps.{empty-sound}
-use Rattle.queue.proofs.DueTimes.{there, insert-others, remove-others, clock-others, take-first, take-others, push-back-others}
+use Rattle.queue.proofs.SoundLaws.{sound-is, sound-cells, sound-again}
 use Rattle.port.specs.Layout.{queueSize}
-use Rattle.port.specs.Words.{word, manyIn, cellIn, cellWord, queueIn, queueWords}
-use Rattle.port.specs.Exports.{heldAfter, heldQueue, heldRest}
+use Rattle.port.specs.Words.{word, manyIn, cellIn, cellWord, queueIn, queueWords, ByteEvent}
 use Rattle.port.proofs.Many.{Back, many-back, many-held}
-use Rattle.port.proofs.Storing.{held-again, insert-gives, remove-gives, clock-gives, take-gives, push-back-gives}
 
 -- THE CELLS OF A SOUND QUEUE
 
@@ -72,7 +62,7 @@ sound-spaced M D q m h =
 abbrev one : Cell → List ℕ
 one c = cellWord c ∷ []
 
-abbrev first : List ℕ → Cell
+abbrev pub first : List ℕ → Cell
 first v = cellIn (word 0 v)
 
 -- the id is a byte, and the gap fits into two
@@ -99,11 +89,8 @@ queue-back q rest l a =
     subst (λ (n : ℕ). manyIn 1 first n (each one (q .cells) ++ rest) ≡ q .cells) l (many-back 1 one first (q .cells) rest (cells-back (q .cells) a)) in
     λ i. record { cells = e i; len = q .len }
 
--- an id that is a byte: of an event, of a cell
-abbrev pub ByteEvent : Event → Type 0
-ByteEvent e = e .id < 256
-
-abbrev ByteCell : Cell → Type 0
+-- a cell whose id is a byte
+abbrev pub ByteCell : Cell → Type 0
 ByteCell c = c .id < 256
 
 -- a filler's id is a byte, and every other cell's is an event's
@@ -124,10 +111,6 @@ pub sound-small : (q : Queue) → soundb maxGap longest q ≡ true → All ByteE
 sound-small q s a =
     let ids : All ByteCell (q .cells) = row-all maxGap longest q s ByteCell (omega arith) (ids-small 0 (cellsOf q) a) in
     all-both (λ c b p. record { id = b; gap = omega (arith, p .most) }) (q .cells) ids (sound-spaced maxGap longest q (omega arith) s)
-
--- every sound queue whose events' ids are bytes
-pub queue-there : (q : Queue) → soundb maxGap longest q ≡ true → All ByteEvent (eventsOf q) → queueIn (queueWords q) ≡ q
-queue-there q s a = rw append-nil at (queue-back q [] (sound-full maxGap longest q (sound-is maxGap longest q s)) (sound-small q s a))
 
 -- READ, THEN WRITTEN
 
@@ -154,119 +137,3 @@ queue-first [] l s = absurd (omega arith)
 queue-first (w ∷ ws) l s =
     ap {B = List ℕ} (λ l. w ∷ l)
     (many-held 1 one first (Spaced maxGap) cells-held cellCount ws (omega arith) (sound-spaced maxGap longest (queueIn (w ∷ ws)) (omega arith) s))
-
--- words that are read as a sound queue, with nothing behind them
-pub queue-held : (ws : List ℕ) → length ws ≡ queueSize → soundb maxGap longest (queueIn ws) ≡ true → queueWords (queueIn ws) ≡ ws
-queue-held ws l s = queue-first ws (omega arith) s ∙ take-all queueSize ws (omega arith)
-
--- WHAT A CALL LEAVES IN THE WORDS, THE NEXT CALL READS
-
-cell-byte : (w : ℕ) → ByteCell (cellIn w)
-unfolding cellIn
-cell-byte w = go (ltb 16777215 w) refl
-  where
-    go : (b : Bool) → ltb 16777215 w ≡ b → ByteCell (pick b (cell filler 0) (cell (w / 65536) (w % 65536)))
-    go true e = omega arith
-    go false e = omega (arith, ltb-false 16777215 w e)
-
-cells-bytes : (n : ℕ) (ws : List ℕ) → All ByteCell (manyIn 1 first n ws)
-cells-bytes zero ws = tt
-cells-bytes (suc n) ws = (cell-byte (word 0 ws), cells-bytes n (drop 1 ws))
-
-events-bytes : (t : ℕ) (cs : List Cell) → All ByteCell cs → All ByteEvent (eventsFrom t cs)
-events-bytes t [] a = tt
-events-bytes t (c ∷ cs) a =
-    all-append ByteEvent (eventAt (c .id) (t + c .gap)) (eventsFrom (t + c .gap) cs) (go (eqb (c .id) filler)) (events-bytes (t + c .gap) cs (a .1))
-  where
-    go : (b : Bool) → All ByteEvent (pick b [] (event (c .id) (t + c .gap) ∷ []))
-    go true = tt
-    go false = (a .0, tt)
-
--- the ids of a queue that is read from words are bytes, whatever the words
-read-bytes : (ws : List ℕ) → All ByteEvent (eventsOf (queueIn ws))
-unfolding queueIn cellsOf
-read-bytes ws = events-bytes 0 (cellsOf (queueIn ws)) (all-first ByteCell (word 0 ws) _ (cells-bytes cellCount (drop 1 ws)))
-
--- the ids are bytes exactly where each id that is there is one
-byte-there : (j : ℕ) (es : List Event) → All ByteEvent es → hasb j es ≡ true → j < 256
-byte-there j [] a h = contrary h refl
-byte-there j (e ∷ es) a h = go (eqb (e .id) j) refl h (byte-there j es (a .1))
-  where
-    go : (b : Bool) → eqb (e .id) j ≡ b → pick b true (hasb j es) ≡ true → (hasb j es ≡ true → j < 256) → j < 256
-    go true p k r = omega (arith, eqb-true (e .id) j p, a .0)
-    go false p k r = r k
-
-there-bytes : (es : List Event) → ((j : ℕ) → hasb j es ≡ true → j < 256) → All ByteEvent es
-there-bytes [] f = tt
-there-bytes (e ∷ es) f = (f (e .id) (rw (eq-eqb (e .id) (e .id) refl)), there-bytes es λ j h. f j (rw (h, either-true (eqb (e .id) j))))
-
--- THE LAW: of a call on the queue that words hold, which answers the refusal r and the queue q; where it is accepted q is sound, and no id is there but x and
--- those that were there
-module _ (ws : List ℕ) (r : Refusal) (q : Queue) (x : ℕ) where
-  record Stores : Type 0 where
-    sound : soundb maxGap longest q ≡ true
-    byte : x < 256
-    others : (j : ℕ) → j ≢ x → there j q ≡ there j (queueIn ws)
-
-  stored-again : Stores → queueIn (queueWords q) ≡ q
-  stored-again s = queue-there q (s .sound) (there-bytes (eventsOf q) λ j h. go j h (eqb j x) refl)
-    where
-      go : (j : ℕ) → there j q ≡ true → (b : Bool) → eqb j x ≡ b → j < 256
-      go j h true e = omega (arith, eqb-true j x e, s .byte)
-      go j h false e = byte-there j (eventsOf (queueIn ws)) (read-bytes ws) (rw (← s .others j (eqb-false j x e)) h)
-
-  queue-again : (r .number ≡ 0 → Stores) → (r .number ≢ 0 → q ≡ queueIn ws) → queueIn (heldAfter r (queueWords q) ws) ≡ q
-  queue-again accepted refused = held-again queueIn r (queueWords q) ws q (λ a. stored-again (accepted a)) (λ n. sym (refused n))
-
--- EACH CALL: the words behind it, accepted or refused, are read as the queue that the call by value hands back
-
-pub empty-again : queueIn (queueWords (queueOf [])) ≡ queueOf []
-empty-again = queue-there (queueOf []) (empty-sound maxGap longest) (rw empty-events tt)
-
-module _ (ws : List ℕ) where
-  abbrev queue : Queue
-  queue = queueIn ws
-
-  -- the code's id is a byte
-  pub insert-again : (id delay : ℕ) → id < 256 → let c = insertOf maxGap longest queue id delay in queueIn (heldQueue c ws) ≡ c .queue
-  insert-again id delay h =
-      let c = insertOf maxGap longest queue id delay in
-      queue-again ws (c .refusal) (c .queue) id
-      (λ a. record { sound = insert-gives queue id delay a; byte = h; others = λ j n. insert-others maxGap longest queue id delay a j n .0 })
-      (insert-unchanged maxGap longest queue id delay)
-
-  pub remove-again : (id : ℕ) → let c = removeOf maxGap longest queue id in queueIn (heldQueue c ws) ≡ c .queue
-  remove-again id =
-      let c = removeOf maxGap longest queue id in
-      queue-again ws (c .refusal) (c .queue) id
-      (λ a. record {
-        sound = remove-gives queue id a;
-        byte = byte-there id (eventsOf queue) (read-bytes ws) (remove-accepted maxGap longest queue id .0 a .1);
-        others = λ j n. remove-others maxGap longest queue id (omega arith) a j n .0;
-      })
-      (remove-unchanged maxGap longest queue id)
-
-  pub clock-again : let c = clockOf maxGap longest queue in queueIn (heldQueue c ws) ≡ c .queue
-  clock-again =
-      let c = clockOf maxGap longest queue in
-      queue-again ws (c .refusal) (c .queue) 0
-      (λ a. record { sound = clock-gives queue a; byte = omega arith; others = λ j n. clock-others maxGap longest queue (omega arith) a j .0 })
-      (clock-unchanged maxGap longest queue)
-
-  pub take-again : let t = takeOf maxGap longest queue in queueIn (heldRest t ws) ≡ t .queue
-  take-again =
-      let t = takeOf maxGap longest queue in
-      queue-again ws (t .refusal) (t .queue) (t .id)
-      (λ a. record {
-        sound = take-gives queue a;
-        byte = subst (All ByteEvent) (take-first maxGap longest queue a) (read-bytes ws) .0;
-        others = λ j n. take-others maxGap longest queue a j n .0;
-      })
-      (λ n. take-unchanged maxGap longest queue n .1)
-
-  pub push-back-again : let c = pushBackOf maxGap longest queue in queueIn (heldQueue c ws) ≡ c .queue
-  push-back-again =
-      let c = pushBackOf maxGap longest queue in
-      queue-again ws (c .refusal) (c .queue) 0
-      (λ a. record { sound = push-back-gives queue a; byte = omega arith; others = λ j n. push-back-others maxGap longest queue a j .0 })
-      (push-back-unchanged maxGap longest queue)

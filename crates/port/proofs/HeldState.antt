@@ -1,13 +1,13 @@
--- Tables and states in words, both ways: the words of a sound table or state are read as that one; and words that are read as a sound one are its words, since
--- every word that none of them has is read as what no sound one has. Assumes nothing.
+-- Tables and the parts of states in words, whatever stands behind them, both ways: the words of a sound one are read as that one; and words that are read as a sound
+-- one are its words, since every word that none of them has is read as what no sound one has. Assumes nothing.
 use mathlib.Core.Path.{_≡_, refl, sym, ap, subst, _∙_}
 use mathlib.Core.Bool.{Bool, true, false}
-use mathlib.Core.List.{List, [], _∷_, _++_, append-assoc, append-nil}
+use mathlib.Core.List.{List, [], _∷_, _++_, append-assoc}
 use Prim.Native.Nat.{ℕ, zero, suc, _+_, _*_, _≤_, _<_}
 use native.Mathlib.Omega.{arith}
 use lib.Dec.{leb, ltb, eqb}
 use lib.ListN.{length, take, drop, getD, length-drop}
-use lib.Seq.{take-add, take-all, drop-at, drop-drop}
+use lib.Seq.{take-add, drop-at, drop-drop}
 use borrow.Author.Tests.{le-ltb, leb-true, eqb-true}
 use Rattle.small.specs.Small.{pick, both, each}
 use Rattle.small.proofs.Tests.{both-left, both-right, contrary}
@@ -16,46 +16,31 @@ use Rattle.queue.specs.Limits.{maxGap, longest}
 use Rattle.queue.specs.Row.{Event, eventsOf}
 use Rattle.queue.specs.declared.Queue.{Queue}
 use Rattle.queue.proofs.SoundLaws.{sound-is, sound-full}
-use Rattle.table.specs.Limits.{mostWork, entries}
+use Rattle.table.specs.Limits.{entries}
 use Rattle.table.specs.Table.{ticks, releaseNumber, periodOf, offsetOf}
-use Rattle.table.specs.Sound.{releaseb, tableb}
-use Rattle.table.specs.Meaning.{Sized}
+use Rattle.table.specs.Sound.{releaseb}
 use Rattle.table.specs.declared.Release.{Release}
 use Rattle.table.specs.declared.Release.the-variants.{OnArrival, Periodic}
 use Rattle.table.specs.declared.Task.{Task}
 use Rattle.table.specs.declared.Server.{Server}
 use Rattle.table.specs.declared.Table.{Table}
-use Rattle.setup.specs.Read.{readOf}
-use Rattle.setup.proofs.RoundTrip.{accepted-sound}
 use Rattle.scheduler.specs.State.{mostPending, mostLost, load}
-use Rattle.scheduler.specs.Sound.{loadb, stateb}
+use Rattle.scheduler.specs.Sound.{loadb}
 use Rattle.scheduler.specs.Moves.{allOf}
-use Rattle.scheduler.specs.Meaning.{SizedState}
-use Rattle.scheduler.specs.Fresh.{freshOf}
-use Rattle.scheduler.specs.Tick.{tickOf}
-use Rattle.scheduler.specs.Arrive.{arriveOf}
 use Rattle.scheduler.specs.declared.Load.{Load}
 use Rattle.scheduler.specs.declared.Entry.{Entry}
-use Rattle.scheduler.specs.declared.State.{State}
-use Rattle.scheduler.proofs.Unchanged.{tick-unchanged, arrive-unchanged}
 use Rattle.scheduler.proofs.Stated.{held, within-each}
-use Rattle.scheduler.proofs.TickSound.{tick-accepts, tick-sound-accepted}
-use Rattle.scheduler.proofs.FreshSound.{fresh-made}
-use Rattle.scheduler.proofs.KeptSizes.{tick-sized, arrive-sized, fresh-sized}
-use Rattle.port.specs.Layout.{queueSize, loadSize, entrySize, taskSize, serverSize, tableSize, stateSize}
-use Rattle.port.specs.Words.{word, manyIn, queueIn, loadIn, entryIn, releaseIn, taskIn, kindIn, serverIn, tableIn, stateIn}
-use Rattle.port.specs.Words.{queueWords, loadWords, entryWords, taskWords, serverWords, tableWords, stateWords}
-use Rattle.port.specs.Exports.{heldState, heldArrived}
+use Rattle.port.specs.Layout.{queueSize, loadSize, entrySize, taskSize, serverSize, tableSize}
+use Rattle.port.specs.Words.{word, manyIn, queueIn, loadIn, entryIn, releaseIn, taskIn, kindIn, serverIn, tableIn, ByteEvent}
+use Rattle.port.specs.Words.{queueWords, loadWords, entryWords, taskWords, serverWords, tableWords}
 use Rattle.port.proofs.Many.{Back, many-back, many-held}
-use Rattle.port.proofs.Storing.{queue-length, held-again}
-use Rattle.port.proofs.Answering.{fresh-gives, tick-gives, arrive-gives}
-use Rattle.port.proofs.Sizing.{FullEntry, FullServer, FullTable, sized-full, state-in-full, state-in-sized}
-use Rattle.port.proofs.Sizing.{table-length, loads-length, server-length, entry-length}
-use Rattle.port.proofs.Ranges.{TaskRange, ServerRange, TableRange, QueueRange, EntryRange, table-range, state-range, queue-sound, sound-state-full}
-use Rattle.port.proofs.Held.{ByteEvent, queue-back, sound-small, queue-first}
+use Rattle.port.proofs.Sizing.{FullEntry, FullServer, FullTable}
+use Rattle.port.proofs.Sizing.{loads-length, server-length, entry-length}
+use Rattle.port.proofs.Ranges.{TaskRange, ServerRange, TableRange, QueueRange, EntryRange, queue-sound}
+use Rattle.port.proofs.Held.{queue-back, sound-small, queue-first}
 
 -- all that are so many, read one behind the other from their words
-back-all : {A : Type 0} (size n : ℕ) (f : A → List ℕ) (g : List ℕ → A) (xs : List A) (rest : List ℕ) → length xs ≡ n → All (Back size f g) xs
+pub back-all : {A : Type 0} (size n : ℕ) (f : A → List ℕ) (g : List ℕ → A) (xs : List A) (rest : List ℕ) → length xs ≡ n → All (Back size f g) xs
     → manyIn size g n (each f xs ++ rest) ≡ xs
 back-all size n f g xs rest l a = subst (λ (m : ℕ). manyIn size g m (each f xs ++ rest) ≡ xs) l (many-back size f g xs rest a)
 
@@ -86,15 +71,11 @@ servers-back [] f r = tt
 servers-back (s ∷ ss) f r =
     (record { whole = server-length s (f .0); back = λ rest. server-back s rest (f .0) (r .0) }, servers-back ss (f .1) (r .1))
 
-table-back : (t : Table) (rest : List ℕ) → FullTable t → TableRange t → tableIn (tableWords t ++ rest) ≡ t
+pub table-back : (t : Table) (rest : List ℕ) → FullTable t → TableRange t → tableIn (tableWords t ++ rest) ≡ t
 unfolding tableIn tableWords
 table-back t rest f r =
     let servers = back-all serverSize entries serverWords serverIn (t .servers) rest (f .count) (servers-back (t .servers) (f .servers) (r .servers)) in
     λ i. record { servers = servers i; count = t .count }
-
--- EVERY SOUND TABLE IS READ BACK FROM ITS WORDS
-pub table-there : (t : Table) → Sized t → tableb longest mostWork t ≡ true → tableIn (tableWords t) ≡ t
-table-there t z h = rw append-nil at (table-back t [] (sized-full t z) (table-range t h))
 
 -- STATES, WRITTEN, THEN READ
 
@@ -109,7 +90,7 @@ reach-place [] id at p h = absurd (omega arith)
 reach-place (r ∷ reach) zero at p h = omega arith
 reach-place (r ∷ reach) (suc id) at p h = omega (arith, reach-place reach id at p h)
 
-held-back : (q : Queue) (rest : List ℕ) → QueueRange q → queueIn (queueWords q ++ rest) ≡ q
+pub held-back : (q : Queue) (rest : List ℕ) → QueueRange q → queueIn (queueWords q ++ rest) ≡ q
 held-back q rest r =
     let h = held (r .reach) q .0 (r .holds) in
     let near : (id at : ℕ) → 0 < at → at ≤ getD (r .reach) id 0 → id < entries = λ id at p k. omega (arith, reach-place (r .reach) id at p k, r .few) in
@@ -138,30 +119,10 @@ entry-back e rest f r =
       budget = e .budget;
     }
 
-entries-back : (es : List Entry) → All FullEntry es → All EntryRange es → All (Back entrySize entryWords entryIn) es
+pub entries-back : (es : List Entry) → All FullEntry es → All EntryRange es → All (Back entrySize entryWords entryIn) es
 entries-back [] f r = tt
 entries-back (e ∷ es) f r =
     (record { whole = entry-length e (f .0); back = λ rest. entry-back e rest (f .0) (r .0) }, entries-back es (f .1) (r .1))
-
--- EVERY SOUND STATE IS READ BACK FROM ITS WORDS
-pub state-there : (s : State) → SizedState s → stateb s ≡ true → stateIn (stateWords s) ≡ s
-unfolding stateIn stateWords
-state-there s z h =
-    let f = sound-state-full s z h in
-    let r = state-range s f h in
-    let ts = tableWords (s .table) in
-    let qs = queueWords (s .refills) in
-    let es = each entryWords (s .entries) in
-    let n = table-length (s .table) (f .table) in
-    let refills : drop tableSize (ts ++ (qs ++ es)) ≡ qs ++ es = drop-at ts (qs ++ es) tableSize n in
-    let last : drop (tableSize + queueSize) (ts ++ (qs ++ es)) ≡ es ++ [] =
-    rw (← drop-drop queueSize tableSize (ts ++ (qs ++ es)), refills, drop-at qs es queueSize (queue-length (s .refills) (f .cells)), append-nil) in
-    λ i. record {
-      entries = (ap (manyIn entrySize entryIn entries) last
-          ∙ back-all entrySize entries entryWords entryIn (s .entries) [] (f .count) (entries-back (s .entries) (f .entries) (r .entries))) i;
-      table = table-back (s .table) (qs ++ es) (f .table) (r .table) i;
-      refills = (ap queueIn refills ∙ held-back (s .refills) es (r .refills)) i;
-    }
 
 -- TABLES, READ, THEN WRITTEN
 
@@ -220,15 +181,11 @@ server-held ws l r =
     let tasks = many-held taskSize taskWords taskIn TaskRange task-held entries (drop 4 ws) (rw length-drop (omega arith)) (r .tasks) in
     rw (four-words (taskSize * entries) ws l, kind-held (word 0 ws) (r .kind), tasks)
 
-table-first : (ws : List ℕ) → tableSize ≤ length ws → TableRange (tableIn ws) → tableWords (tableIn ws) ≡ take tableSize ws
+pub table-first : (ws : List ℕ) → tableSize ≤ length ws → TableRange (tableIn ws) → tableWords (tableIn ws) ≡ take tableSize ws
 unfolding tableIn tableWords
 table-first ws l r =
     let servers = many-held serverSize serverWords serverIn ServerRange server-held entries (drop 1 ws) (rw length-drop (omega arith)) (r .servers) in
     rw (first-word (serverSize * entries) ws l, servers)
-
--- WORDS THAT ARE READ AS A SOUND TABLE ARE ITS WORDS
-pub table-held : (ws : List ℕ) → length ws ≡ tableSize → tableb longest mostWork (tableIn ws) ≡ true → tableWords (tableIn ws) ≡ ws
-table-held ws l h = table-first ws (omega arith) (table-range (tableIn ws) h) ∙ take-all tableSize ws (omega arith)
 
 -- STATES, READ, THEN WRITTEN
 
@@ -245,7 +202,7 @@ load-held (a ∷ b ∷ ws) l h = go (ltb 65535 b) h
     go true k = contrary k refl
     go false k = refl
 
-entry-held : (ws : List ℕ) → entrySize ≤ length ws → EntryRange (entryIn ws) → entryWords (entryIn ws) ≡ take entrySize ws
+pub entry-held : (ws : List ℕ) → entrySize ≤ length ws → EntryRange (entryIn ws) → entryWords (entryIn ws) ≡ take entrySize ws
 unfolding entryIn entryWords
 entry-held ws l r =
     let us = drop 1 ws in
@@ -255,46 +212,3 @@ entry-held ws l r =
     let parts : take entrySize ws ≡ word 0 ws ∷ (take n us ++ take queueSize (drop (1 + n) ws)) =
     rw (first-word (n + queueSize) ws l, take-add n queueSize us, drop-drop n 1 ws) in
     (λ i. word 0 ws ∷ (loads i ++ arrivals i)) ∙ sym parts
-
--- WORDS THAT ARE READ AS A SOUND STATE ARE ITS WORDS
-pub state-held : (ws : List ℕ) → length ws ≡ stateSize → stateb (stateIn ws) ≡ true → stateWords (stateIn ws) ≡ ws
-unfolding stateIn stateWords
-state-held ws l h =
-    let r = state-range (stateIn ws) (state-in-full ws) h in
-    let us = drop tableSize ws in
-    let n = entrySize * entries in
-    let table = table-first ws (omega arith) (r .table) in
-    let refills = queue-first us (rw length-drop (omega arith)) (queue-sound _ (r .refills)) in
-    let es = drop (tableSize + queueSize) ws in
-    let last = many-held entrySize entryWords entryIn EntryRange entry-held entries es (rw length-drop (omega arith)) (r .entries) in
-    let parts : take stateSize ws ≡ take tableSize ws ++ (take queueSize us ++ take n (drop (tableSize + queueSize) ws)) =
-    rw (take-add tableSize (queueSize + n) ws, take-add queueSize n us, drop-drop queueSize tableSize ws) in
-    (λ i. table i ++ (refills i ++ last i)) ∙ sym parts ∙ take-all stateSize ws (omega arith)
-
--- WHAT AN ACCEPTED SETUP STORES, THE NEXT CALL READS: its table, and the state that it begins in
-module _ (bs : List ℕ) (a : readOf longest mostWork bs .refusal .number ≡ 0) where
-  pub setup-again : let t = readOf longest mostWork bs .table in tableIn (tableWords t) ≡ t
-  setup-again = let h = accepted-sound longest mostWork bs a in table-there (readOf longest mostWork bs .table) (h .1) (h .0)
-
-  pub fresh-again : let s = freshOf (readOf longest mostWork bs .table) .state in stateIn (stateWords s) ≡ s
-  fresh-again =
-      let t = readOf longest mostWork bs .table in
-      let h = accepted-sound longest mostWork bs a in
-      state-there (freshOf t .state) (rw (fresh-made t (h .0)) (fresh-sized t (h .1))) (fresh-gives t (h .0))
-
--- WHAT A CALL LEAVES IN THE WORDS, THE NEXT CALL READS: behind a tick and an arrival, accepted or refused, the state that the call by value hands back
-pub tick-again : (ws : List ℕ) → let t = tickOf (stateIn ws) in stateIn (heldState t ws) ≡ t .state
-tick-again ws =
-    let s = stateIn ws in
-    let t = tickOf s in
-    held-again stateIn (t .refusal) (stateWords (t .state)) ws (t .state)
-    (λ a. state-there (t .state) (rw (tick-accepts s (tick-sound-accepted s .0 a)) (tick-sized s (state-in-sized ws))) (tick-gives s a))
-    (λ n. sym (tick-unchanged s n .0))
-
-pub arrive-again : (ws : List ℕ) (i j : ℕ) → let t = arriveOf (stateIn ws) i j in stateIn (heldArrived t ws) ≡ t .state
-arrive-again ws i j =
-    let s = stateIn ws in
-    let t = arriveOf s i j in
-    held-again stateIn (t .refusal) (stateWords (t .state)) ws (t .state)
-    (λ a. state-there (t .state) (arrive-sized s i j (state-in-sized ws)) (arrive-gives s i j a))
-    (λ n. sym (arrive-unchanged s i j n .0))

@@ -1,3 +1,9 @@
+-- PROMISED: what docs/ASSURANCE.md names
+pub mod Refusals
+pub mod OneOutcome
+pub mod RoundTrip
+pub mod Again
+-- WHAT ONLY SERVES
 pub mod Many
 pub mod Storing
 pub mod Places
@@ -6,5 +12,3 @@ pub mod Ranges
 pub mod Answering
 pub mod Held
 pub mod HeldState
-pub mod Refusals
-pub mod OneOutcome

@@ -1,12 +1,12 @@
 -- What words hold, and the words of what is held. Words that are none of a value's are read as a value that no sound queue, table or state has: a filler of
 -- gap 0, work that no load has, a kind that there is not, a period of 0.
 use mathlib.Core.List.{List, [], _∷_, _++_}
-use Prim.Native.Nat.{ℕ, zero, suc, _+_, _*_, _/_, _%_}
+use Prim.Native.Nat.{ℕ, zero, suc, _+_, _*_, _/_, _%_, _<_}
 use lib.Dec.{ltb, eqb}
 use lib.ListN.{drop, getD}
 use Rattle.small.specs.Small.{pick, both, each}
 use Rattle.queue.specs.Limits.{cellCount, filler}
-use Rattle.queue.specs.Row.{cell}
+use Rattle.queue.specs.Row.{Event, cell}
 use Rattle.queue.specs.declared.Cell.{Cell}
 use Rattle.queue.specs.declared.Queue.{Queue}
 use Rattle.table.specs.Limits.{entries}
@@ -44,6 +44,10 @@ queueIn ws = record { cells = manyIn 1 (λ v. cellIn (word 0 v)) cellCount (drop
 
 unfoldable pub queueWords : Queue → List ℕ
 queueWords q = q .len ∷ each (λ c. cellWord c ∷ []) (q .cells)
+
+-- an event whose id is a byte, as that of every event that words hold is
+abbrev pub ByteEvent : Event → Type 0
+ByteEvent e = e .id < 256
 
 -- ENTRIES: the budget, then each task's pending work and lost count, then the queue of arrivals
 

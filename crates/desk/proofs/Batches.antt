@@ -7,22 +7,20 @@ use native.Mathlib.Omega.{arith}
 use native.Mathlib.Nat.{zero-add, add-zero, suc-add}
 use lib.Dec.{eqb}
 use lib.ListN.{length, replicate}
-use borrow.Author.Tests.{eqb-true, eqb-false, le-ltb}
-use Rattle.small.specs.Small.{pick, padded}
-use Rattle.refusal.specs.Refusal.{none}
+use borrow.Author.Tests.{eqb-true, eqb-false}
+use Rattle.small.specs.Small.{pick}
 use Rattle.scheduler.specs.Sound.{stateb}
 use Rattle.scheduler.specs.Tick.{tickOf}
-use Rattle.scheduler.specs.Run.{batchSize, answer, answersOf, stateAfterTicks, ticksIn}
+use Rattle.scheduler.specs.Run.{batchSize, answer, answersOf, stateAfterTicks}
 use Rattle.scheduler.specs.declared.Choice.the-variants.{Idle}
 use Rattle.scheduler.specs.declared.Answer.{Answer}
 use Rattle.scheduler.specs.declared.State.{State}
-use Rattle.scheduler.proofs.Refusals.{run-accepted}
-use Rattle.scheduler.proofs.Unchanged.{run-done}
 use Rattle.scheduler.proofs.TickSound.{ticks-sound}
 use Rattle.lines.specs.Lines.{tickLine, answerLines}
-use Rattle.desk.specs.Desk.{tickLimit, deskWith, ranWith, ranOf}
+use Rattle.desk.specs.Desk.{tickLimit, deskWith, ranOf}
 use Rattle.desk.specs.Trace.{leftLines, behindLeft, batchText, batchesText, behindBatches}
 use Rattle.desk.specs.declared.Desk.{Desk}
+use Rattle.desk.proofs.OneBatch.{size, row, next, batch-is}
 
 -- TICKS IN A ROW
 
@@ -31,19 +29,19 @@ answers-length zero s = refl
 answers-length (suc k) s = ap suc (answers-length k (tickOf s .state))
 
 -- n ticks behind m
-pub answers-join : (m n : ℕ) (s : State) → answersOf (m + n) s ≡ answersOf m s ++ answersOf n (stateAfterTicks m s)
+answers-join : (m n : ℕ) (s : State) → answersOf (m + n) s ≡ answersOf m s ++ answersOf n (stateAfterTicks m s)
 answers-join zero n s = ap (λ (k : ℕ). answersOf k s) (zero-add n)
 answers-join (suc m) n s =
     rw (suc-add m n) (ap {B = List Answer} (λ l. answer (tickOf s .choice) (tickOf s .handled) ∷ l) (answers-join m n (tickOf s .state)))
 
-pub states-join : (m n : ℕ) (s : State) → stateAfterTicks (m + n) s ≡ stateAfterTicks n (stateAfterTicks m s)
+states-join : (m n : ℕ) (s : State) → stateAfterTicks (m + n) s ≡ stateAfterTicks n (stateAfterTicks m s)
 states-join zero n s = ap (λ (k : ℕ). stateAfterTicks k s) (zero-add n)
 states-join (suc m) n s = rw (suc-add m n) (states-join m n (tickOf s .state))
 
 -- THEIR LINES
 
 -- those of some answers, then those of others, whose ticks are numbered on
-pub lines-join : (k n : ℕ) (xs ys : List Answer)
+lines-join : (k n : ℕ) (xs ys : List Answer)
     → answerLines k (length xs + n) (xs ++ ys) ≡ answerLines k (length xs) xs ++ answerLines (k + length xs) n ys
 lines-join k n [] ys = rw (zero-add n, add-zero k)
 lines-join k n (x ∷ xs) ys =
@@ -58,22 +56,6 @@ lines-first k n xs ys e =
     (rw (add-zero (length xs), append-nil (answerLines k (length xs) xs)) at (lines-join k 0 xs ys))
 
 -- ONE BATCH
-
--- how many ticks it has, the row of its answers, and the run behind it
-abbrev pub size : Desk → ℕ
-size d = ticksIn (d .left)
-
-abbrev pub row : Desk → List Answer
-row d = padded (answer Idle 0) batchSize (answersOf (size d) (d .state))
-
-abbrev pub next : Desk → Desk
-next d = deskWith (stateAfterTicks (size d) (d .state)) (d .ran + size d) (d .left - size d)
-
--- a batch of a sound run: the answers of single ticks, and the run behind them
-pub batch-is : (d : Desk) → stateb (d .state) ≡ true → d .ran + d .left ≤ tickLimit
-    → ranOf d ≡ ranWith none (row d) (next d) (d .ran) (size d)
-unfolding ranOf
-batch-is d h l = rw (h, le-ltb tickLimit (d .ran + d .left) l, run-done (d .state) (d .left) (run-accepted (d .state) (d .left) .1 h))
 
 module _ (d : Desk) where
   all : size d + (d .left - size d) ≡ d .left

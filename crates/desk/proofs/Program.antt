@@ -17,7 +17,7 @@ use Rattle.desk.specs.Meaning.{Kept}
 use Rattle.desk.specs.declared.Desk.{Desk}
 use Rattle.desk.specs.declared.Opened.{Opened}
 use Rattle.desk.proofs.Batches.{batches}
-use Rattle.desk.proofs.Kept.{opened-kept, message-kept, ticks-kept}
+use Rattle.desk.proofs.Keeps.{opened-kept, message-kept, ticks-kept}
 
 -- any count of turns that is more than there are bytes gives the same trace: each message takes some
 pub turns-enough : (f g : ℕ) (d : Desk) (k : ℕ) (bs : List ℕ) → length bs < f → length bs < g → messagesText f d k bs ≡ messagesText g d k bs

@@ -1,4 +1,4 @@
--- Document 01's example of a whole run: the 62 bytes that are read, and the bytes that are written. proofs/Worked.antt computes the one from the other.
+-- Document 01's example of a whole run: the 62 bytes that are read, and the bytes that are written. proofs/Points.antt computes the one from the other.
 use mathlib.Core.List.{List, [], _∷_, _++_}
 use Prim.Native.Nat.{ℕ}
 

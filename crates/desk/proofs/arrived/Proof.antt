@@ -15,7 +15,7 @@ use Rattle.scheduler.proofs.Unchanged.{arrive-unchanged}
 use Rattle.lines.specs.declared.Line.the-variants.{Refused}
 use Rattle.desk.specs.Desk.{deskWith, met, arrivedOf}
 use Rattle.desk.specs.declared.Desk.{Desk}
-use Rattle.desk.proofs.Refusals.{arrive-sound-by}
+use Rattle.desk.proofs.Cases.{arrive-sound-by}
 use Rattle.desk.proofs.arrived.Statement.{statement}
 use Rattle.desk.proofs.arrived.Tie as tie
 

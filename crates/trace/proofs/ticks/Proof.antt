@@ -3,7 +3,7 @@ use mathlib.Core.Path.{_≡_, sym, ap, _∙_}
 use borrow.Author.Needs.{needs}
 use lib.ListN.{length}
 use Rattle.desk.specs.declared.Ran.{Ran}
-use Rattle.desk.proofs.Kept.{left-falls}
+use Rattle.desk.proofs.OneBatch.{left-falls}
 use Rattle.trace.proofs.ticks.Statement.{statement}
 use Rattle.trace.proofs.ticks.Tie as tie
 

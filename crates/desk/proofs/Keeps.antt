@@ -2,7 +2,7 @@
 use mathlib.Core.Path.{_≡_, refl}
 use mathlib.Core.Bool.{Bool, true, false}
 use mathlib.Core.List.{List}
-use Prim.Native.Nat.{ℕ, _+_, _<_}
+use Prim.Native.Nat.{ℕ, _+_}
 use native.Mathlib.Omega.{arith}
 use lib.Dec.{ltb, eqb}
 use borrow.Author.Tests.{ltb-false}
@@ -24,7 +24,7 @@ use Rattle.desk.specs.Desk.{tickLimit, deskWith, met, openOf, askedOf, a
 use Rattle.desk.specs.Trace.{behindLeft}
 use Rattle.desk.specs.Meaning.{Kept}
 use Rattle.desk.specs.declared.Desk.{Desk}
-use Rattle.desk.proofs.Batches.{batch-is}
+use Rattle.desk.proofs.OneBatch.{batch-is}
 use Rattle.desk.proofs.Refusals.{run-on-accepted}
 
 -- THE SETUP
@@ -85,9 +85,3 @@ module _ (d : Desk) (w : Kept d) where
   -- and all of them
   pub ticks-kept : Kept (behindLeft d)
   ticks-kept = record { sound = ticks-sound (d .left) (d .state) (w .sound); within = omega (arith, w .within) }
-
--- BATCHES END: of any run, kept or not, each that is not refused leaves fewer ticks
-pub left-falls : (d : Desk) → ranOf d .refusal .number ≡ 0 → 0 < d .left → ranOf d .desk .left < d .left
-left-falls d a h =
-    let (s, l) = run-on-accepted d .0 a in
-    rw (batch-is d s l) (omega arith)

@@ -33,7 +33,8 @@ use Rattle.scheduler.proofs.Laws.{tick-spent, tick-filled, arrive-budget, arriv
 use Rattle.assurance.specs.History.{Call, tick, run, arrival, Seen, ticksOf, ticksAsked, tickEnd, endBefore}
 use Rattle.table.specs.Table.{periodIn}
 use Rattle.assurance.proofs.Ticks.{Full, OneTick, Since, Run, at-most}
-use Rattle.assurance.proofs.RunTicks.{seen-tick, run-ticks}
+use Rattle.assurance.proofs.Seeing.{seen-tick}
+use Rattle.assurance.proofs.RunTicks.{run-ticks}
 
 -- sound, with its arrays' lengths, and of the table t
 pub record SoundOf (t : Table) (s : State) : Type 0 where

@@ -1,8 +1,11 @@
+-- PROMISED: what docs/ASSURANCE.md names
+pub mod FromFile
+pub mod Assured
+pub mod RunTicks
+pub mod Refilled
+pub mod Points
+-- WHAT ONLY SERVES
 pub mod Account
 pub mod Ticks
-pub mod RunTicks
+pub mod Seeing
 pub mod History
-pub mod Assured
-pub mod FromFile
-pub mod Refilled
-pub mod Computed

@@ -5,7 +5,6 @@ use mathlib.Core.List.{List, _∷_, _++_}
 use mathlib.Core.Logic.{_≢_}
 use Prim.Native.Nat.{ℕ, zero, suc}
 use lib.ListN.{take, replicate}
-use borrow.Author.Tests.{ne-eqb}
 use Rattle.small.proofs.Tests.{contrary}
 use Rattle.scheduler.specs.Sound.{stateb}
 use Rattle.scheduler.specs.Tick.{tickOf}
@@ -13,19 +12,10 @@ use Rattle.scheduler.specs.Run.{answersOf, stateAfterTicks, ticksIn}
 use Rattle.scheduler.specs.declared.State.{State}
 use Rattle.scheduler.specs.declared.Answer.{Answer}
 use Rattle.scheduler.proofs.Refusals.{run-accepted}
-use Rattle.scheduler.proofs.Unchanged.{tick-unchanged, run-unchanged, run-done}
+use Rattle.scheduler.proofs.Unchanged.{run-unchanged, run-done}
 use Rattle.scheduler.proofs.TickSound.{tick-sound-accepted, ticked-sound}
 use Rattle.assurance.specs.History.{Call, tick, run, Seen, seen, seenBy, ticksOf}
-
--- a tick of a sound state is seen, and a refused one is not
-
-pub seen-tick : (s : State) → stateb s ≡ true → (cs : List Call) → ticksOf s (tick ∷ cs) ≡ seen s ∷ ticksOf (tickOf s .state) cs
-unfolding ticksOf
-seen-tick s h cs = rw (tick-sound-accepted s .1 h)
-
-unseen-tick : (s : State) → tickOf s .refusal .number ≢ 0 → (cs : List Call) → ticksOf s (tick ∷ cs) ≡ ticksOf s cs
-unfolding ticksOf
-unseen-tick s n cs = rw (ne-eqb (tickOf s .refusal .number) 0 n, tick-unchanged s n .0)
+use Rattle.assurance.proofs.Seeing.{seen-tick, unseen-tick}
 
 -- n ticks behind a state, and what comes then
 

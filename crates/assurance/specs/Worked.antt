@@ -1,4 +1,4 @@
--- Demand 3's numbers, worked out: document 01's example, and a history that reaches both bounds. proofs/Computed.antt computes them.
+-- Demand 3's numbers, worked out: document 01's example, and a history that reaches both bounds. proofs/Points.antt computes them.
 use mathlib.Core.Path.{_≡_}
 use mathlib.Core.Bool.{true}
 use mathlib.Core.List.{List, [], _∷_}

@@ -25,11 +25,10 @@ use Rattle.scheduler.specs.Meaning.{SizedState, lapsesAt}
 use Rattle.scheduler.specs.declared.State.{State}
 use Rattle.scheduler.specs.declared.Choice.{Choice}
 use Rattle.scheduler.specs.declared.Choice.the-variants.{Idle}
-use Rattle.scheduler.proofs.TickSound.{tick-sound, tick-accepts, arrive-sound}
-use Rattle.scheduler.proofs.FreshSound.{fresh-sound, fresh-made, fresh-budget, fresh-refill}
+use Rattle.scheduler.proofs.Keeps.{tick-sound, arrive-sound, fresh-sound}
+use Rattle.scheduler.proofs.TickSound.{tick-accepts}
 use Rattle.scheduler.proofs.KeptSizes.{tick-sized, arrive-sized, fresh-sized}
-use Rattle.scheduler.proofs.FirstReady.{chosen-first}
-use Rattle.scheduler.proofs.Laws.{tick-spent, tick-filled, arrive-budget, arrive-refills, arrive-table, arrive-pending, tick-table}
+use Rattle.scheduler.proofs.Laws.{tick-spent, tick-filled, arrive-budget, arrive-refills, arrive-table, arrive-pending, tick-table, fresh-made, fresh-budget, fresh-refill, chosen-first}
 use Rattle.assurance.specs.History.{Call, tick, run, arrival, Seen, ticksOf, ticksAsked, tickEnd, endBefore}
 use Rattle.table.specs.Table.{periodIn}
 use Rattle.assurance.proofs.Ticks.{Full, OneTick, Since, Run, at-most}

@@ -26,10 +26,10 @@ use Rattle.scheduler.specs.Meaning.{SizedState, readyAt, budgetAt, lapsesAt, re
 use Rattle.scheduler.specs.declared.State.{State}
 use Rattle.scheduler.specs.declared.Choice.{Choice}
 use Rattle.scheduler.specs.declared.Choice.the-variants.{Idle, Burning, Running}
-use Rattle.scheduler.proofs.TickSound.{tick-accepts, ticked-sound, arrive-sound, state-parts}
+use Rattle.scheduler.proofs.Keeps.{ticked-sound, arrive-sound}
+use Rattle.scheduler.proofs.TickSound.{tick-accepts, state-parts}
 use Rattle.scheduler.proofs.KeptSizes.{tick-sized, arrive-sized}
-use Rattle.scheduler.proofs.FirstReady.{chosen-first}
-use Rattle.scheduler.proofs.Laws.{tick-filled, tick-table, not-polling, working, arrive-budget}
+use Rattle.scheduler.proofs.Laws.{tick-filled, tick-table, not-polling, working, arrive-budget, chosen-first}
 use Rattle.assurance.specs.History.{arrived}
 use Rattle.assurance.specs.Demand3.{wantsAt, workless}
 

@@ -12,8 +12,9 @@ use Rattle.scheduler.specs.Run.{answersOf, stateAfterTicks, ticksIn}
 use Rattle.scheduler.specs.declared.State.{State}
 use Rattle.scheduler.specs.declared.Answer.{Answer}
 use Rattle.scheduler.proofs.Refusals.{run-accepted}
-use Rattle.scheduler.proofs.Unchanged.{run-unchanged, run-done}
-use Rattle.scheduler.proofs.TickSound.{tick-sound-accepted, ticked-sound}
+use Rattle.scheduler.proofs.Answers.{run-done}
+use Rattle.scheduler.proofs.Unchanged.{run-unchanged}
+use Rattle.scheduler.proofs.Keeps.{tick-sound-accepted, ticked-sound}
 use Rattle.assurance.specs.History.{Call, tick, run, Seen, seen, seenBy, ticksOf}
 use Rattle.assurance.proofs.Seeing.{seen-tick, unseen-tick}
 

@@ -8,7 +8,7 @@ use Rattle.scheduler.specs.Sound.{stateb}
 use Rattle.scheduler.specs.Tick.{tickOf}
 use Rattle.scheduler.specs.declared.State.{State}
 use Rattle.scheduler.proofs.Unchanged.{tick-unchanged}
-use Rattle.scheduler.proofs.TickSound.{tick-sound-accepted}
+use Rattle.scheduler.proofs.Keeps.{tick-sound-accepted}
 use Rattle.assurance.specs.History.{Call, tick, seen, ticksOf}
 
 pub seen-tick : (s : State) → stateb s ≡ true → (cs : List Call) → ticksOf s (tick ∷ cs) ≡ seen s ∷ ticksOf (tickOf s .state) cs

@@ -15,7 +15,7 @@ use Rattle.scheduler.specs.Run.{batchSize, answer, answersOf, stateAfterTicks}
 use Rattle.scheduler.specs.declared.Choice.the-variants.{Idle}
 use Rattle.scheduler.specs.declared.Answer.{Answer}
 use Rattle.scheduler.specs.declared.State.{State}
-use Rattle.scheduler.proofs.TickSound.{ticks-sound}
+use Rattle.scheduler.proofs.Keeps.{ticks-sound}
 use Rattle.lines.specs.Lines.{tickLine, answerLines}
 use Rattle.desk.specs.Desk.{tickLimit, deskWith, ranOf}
 use Rattle.desk.specs.Trace.{leftLines, behindLeft, batchText, batchesText, behindBatches}

@@ -12,7 +12,7 @@ use Rattle.scheduler.specs.Run.{batchSize, answer, answersOf, stateAfterTicks, 
 use Rattle.scheduler.specs.declared.Choice.the-variants.{Idle}
 use Rattle.scheduler.specs.declared.Answer.{Answer}
 use Rattle.scheduler.proofs.Refusals.{run-accepted}
-use Rattle.scheduler.proofs.Unchanged.{run-done}
+use Rattle.scheduler.proofs.Answers.{run-done}
 use Rattle.desk.specs.Desk.{tickLimit, deskWith, ranWith, ranOf}
 use Rattle.desk.specs.declared.Desk.{Desk}
 use Rattle.desk.proofs.Refusals.{run-on-accepted}

@@ -31,8 +31,9 @@ use Rattle.scheduler.specs.Fresh.{freshOf}
 use Rattle.scheduler.specs.Tick.{tickOf}
 use Rattle.scheduler.specs.Arrive.{arriveOf}
 use Rattle.scheduler.proofs.Unchanged.{tick-unchanged, arrive-unchanged}
-use Rattle.scheduler.proofs.TickSound.{tick-accepts, tick-sound-accepted}
-use Rattle.scheduler.proofs.FreshSound.{fresh-made}
+use Rattle.scheduler.proofs.Keeps.{tick-sound-accepted}
+use Rattle.scheduler.proofs.TickSound.{tick-accepts}
+use Rattle.scheduler.proofs.Laws.{fresh-made}
 use Rattle.scheduler.proofs.KeptSizes.{tick-sized, arrive-sized, fresh-sized}
 use Rattle.port.specs.Words.{word, manyIn, cellIn, queueIn, queueWords, tableIn, stateIn, tableWords, stateWords, ByteEvent}
 use Rattle.port.specs.Exports.{heldAfter, heldQueue, heldRest, heldState, heldArrived}

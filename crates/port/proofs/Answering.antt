@@ -33,8 +33,8 @@ use Rattle.scheduler.specs.Tick.{tickOf}
 use Rattle.scheduler.specs.Arrive.{arriveOf}
 use Rattle.scheduler.specs.declared.State.{State}
 use Rattle.scheduler.proofs.Refusals.{arrive-accepted}
-use Rattle.scheduler.proofs.FreshSound.{fresh-made, fresh-sound}
-use Rattle.scheduler.proofs.TickSound.{ticked-sound, arrive-sound, tick-sound-accepted}
+use Rattle.scheduler.proofs.Keeps.{fresh-sound, ticked-sound, arrive-sound, tick-sound-accepted}
+use Rattle.scheduler.proofs.Laws.{fresh-made}
 use Rattle.port.specs.Layout.{wordLimit, tableSize}
 use Rattle.port.specs.Words.{word, tableIn, tableWords}
 use Rattle.port.specs.Exports.{heldLength, messageWords}

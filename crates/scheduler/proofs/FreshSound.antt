@@ -1,4 +1,4 @@
--- The fresh state of a sound table is sound: every event finds room, and stands within its reach. Assumes nothing.
+-- Why the fresh state of a sound table is sound, and what it holds (Keeps and Laws say it): every event finds room, and stands within its reach. Assumes nothing.
 use mathlib.Core.Path.{_≡_, refl, sym, ap, _∙_}
 use mathlib.Core.Bool.{Bool, true, false}
 use mathlib.Core.List.{List, [], _∷_}
@@ -25,27 +25,23 @@ use Rattle.queue.proofs.DueTimes.{there, away, insert-others, insert-new}
 use Rattle.queue.proofs.Room.{room}
 use Rattle.table.specs.Limits.{mostWork, entries}
 use Rattle.table.specs.Table.{periodOf, zeroTask, zeroServer, periodIn}
-use Rattle.table.specs.Sound.{taskb, zeroTaskb, tableb}
+use Rattle.table.specs.Sound.{taskb, zeroTaskb}
 use Rattle.table.specs.declared.Release.{Release}
 use Rattle.table.specs.declared.Release.the-variants.{OnArrival, Periodic}
 use Rattle.table.specs.declared.Task.{Task}
 use Rattle.table.specs.declared.Server.{Server}
 use Rattle.table.specs.declared.Table.{Table}
 use Rattle.table.proofs.SoundLaws.{range-within, zero-task}
-use Rattle.scheduler.specs.State.{mostPending, zeroLoad, zeroEntry, serverAt, taskAt, loadAt}
+use Rattle.scheduler.specs.State.{mostPending, zeroLoad, zeroEntry, taskAt}
 use Rattle.scheduler.specs.Polling.{lapsed}
-use Rattle.scheduler.specs.Sound.{releaseReach, taskReaches, serverReaches, loadb, zeroLoadb, entryb, entriesb, allSpentb, stateb}
-use Rattle.scheduler.specs.Tick.{periodAt, fullAt}
-use Rattle.scheduler.specs.Fresh.{firstAway, taskAway, serverAway, firstWork, freshLoad, freshLoads, putIn, freshQueue, filledEntry, freshEntry, freshEntries, freshState, madeWith, freshOf}
-use Rattle.scheduler.specs.Meaning.{budgetAt, lapsesAt, refillAway, arrivalAway}
+use Rattle.scheduler.specs.Sound.{releaseReach, taskReaches, serverReaches, loadb, zeroLoadb, entryb, entriesb, allSpentb}
+use Rattle.scheduler.specs.Fresh.{firstAway, taskAway, firstWork, freshLoad, freshLoads, putIn, freshQueue, filledEntry, freshEntry, freshEntries}
 use Rattle.scheduler.specs.declared.Entry.{Entry}
-use Rattle.scheduler.proofs.Refusals.{fresh-accepted}
-use Rattle.scheduler.proofs.Unchanged.{fresh-done}
 use Rattle.scheduler.proofs.Stated.{entry-stated, ServerStated, zero-stated, server-reach, task-reach}
-use Rattle.scheduler.proofs.Lapsing.{lapsed-keeps, lapsed-budget, lapsed-sound, lapsed-spent}
+use Rattle.scheduler.proofs.Lapsing.{lapsed-keeps, lapsed-sound, lapsed-spent}
 use Rattle.scheduler.proofs.HeldEach.{HeldEach, held-each, few-ids}
-use Rattle.scheduler.proofs.Again.{Delayed}
-use Rattle.scheduler.proofs.TickSound.{task-delayed, Every, state-parts, table-every, server-delayed}
+use Rattle.scheduler.proofs.AgainLaws.{Delayed}
+use Rattle.scheduler.proofs.TickSound.{task-delayed, Every}
 
 -- EVENTS PUT IN BY TABLE ORDER
 
@@ -173,7 +169,7 @@ module _ {A : Type 0} (f : A → ℕ) (d : A) (xs : List A) (reach : List ℕ) (
   all = put-all reach first each none f d xs 0 (queueOf []) (λ k. let y : 0 + k ≡ k = omega arith in rw y) (put-none reach first each none)
 
   -- the queue of the events put in holds exactly those that have a reach
-  fresh-held : HeldEach reach (freshQueue f xs)
+  pub fresh-held : HeldEach reach (freshQueue f xs)
   fresh-held =
       record {
         sound = all .sound;
@@ -191,7 +187,7 @@ module _ {A : Type 0} (f : A → ℕ) (d : A) (xs : List A) (reach : List ℕ) (
               absurd (omega (arith, each j m .low, ap f e))
 
   -- each as far away as it was put in
-  fresh-away : (j : ℕ) → away j (freshQueue f xs) ≡ f (getD xs j d)
+  pub fresh-away : (j : ℕ) → away j (freshQueue f xs) ≡ f (getD xs j d)
   fresh-away j = go (there j (freshQueue f xs)) refl
     where
       go : (b : Bool) → there j (freshQueue f xs) ≡ b → away j (freshQueue f xs) ≡ f (getD xs j d)
@@ -265,7 +261,7 @@ module _ (s : Server) (k : ServerStated s) where
             (fresh-held taskAway zeroTask (s .tasks) (taskReaches (s .tasks)) refl arrival-delayed arrival-near);
       })
 
-  entry-away : (j : ℕ) → away j (freshEntry s .arrivals) ≡ taskAway (taskAt s j)
+  pub entry-away : (j : ℕ) → away j (freshEntry s .arrivals) ≡ taskAway (taskAt s j)
   unfolding freshEntry
   entry-away j =
       lapsed-keeps s (filledEntry s) (λ (e : Entry). away j (e .arrivals)) refl
@@ -273,74 +269,32 @@ module _ (s : Server) (k : ServerStated s) where
 
 -- THE STATE
 
-entries-sound : (ss : List Server) → Every ss → entriesb ss (freshEntries ss) ≡ true
+pub entries-sound : (ss : List Server) → Every ss → entriesb ss (freshEntries ss) ≡ true
 entries-sound [] k = refl
 entries-sound (s ∷ ss) k = rw (entry-sound s (k .0)) (entries-sound ss (k .1))
 
-fresh-spent : (ss : List Server) → allSpentb ss (freshEntries ss) ≡ true
+pub fresh-spent : (ss : List Server) → allSpentb ss (freshEntries ss) ≡ true
 unfolding freshEntry
 fresh-spent [] = refl
 fresh-spent (s ∷ ss) = rw (lapsed-spent s (filledEntry s)) (fresh-spent ss)
 
 -- the entry at a place is the fresh one of its server: past the end both are zero
-entries-fresh : (ss : List Server) (i : ℕ) → getD (freshEntries ss) i zeroEntry ≡ freshEntry (getD ss i zeroServer)
+pub entries-fresh : (ss : List Server) (i : ℕ) → getD (freshEntries ss) i zeroEntry ≡ freshEntry (getD ss i zeroServer)
 unfolding freshEntry freshQueue lapsed
 entries-fresh [] i = refl
 entries-fresh (s ∷ ss) zero = refl
 entries-fresh (s ∷ ss) (suc i) = entries-fresh ss i
 
-loads-fresh : (ts : List Task) (j : ℕ) → getD (freshLoads ts) j zeroLoad ≡ freshLoad (getD ts j zeroTask)
+pub loads-fresh : (ts : List Task) (j : ℕ) → getD (freshLoads ts) j zeroLoad ≡ freshLoad (getD ts j zeroTask)
 loads-fresh [] j = refl
 loads-fresh (t ∷ ts) zero = refl
 loads-fresh (t ∷ ts) (suc j) = loads-fresh ts j
 
-every-at : (ss : List Server) → Every ss → (i : ℕ) → ServerStated (getD ss i zeroServer)
+pub every-at : (ss : List Server) → Every ss → (i : ℕ) → ServerStated (getD ss i zeroServer)
 every-at [] k i = zero-stated zeroServer refl
 every-at (s ∷ ss) k zero = k .0
 every-at (s ∷ ss) k (suc i) = every-at ss (k .1) i
 
-module _ (t : Table) (h : tableb longest mostWork t ≡ true) where
-  refill-near : (j : ℕ) → periodIn t j ≤ getD (serverReaches (t .servers)) j 0
-  refill-near j = rw (server-reach (t .servers) j) (omega arith)
-
-  -- THE FRESH STATE OF A SOUND TABLE IS SOUND
-  pub fresh-sound : stateb (freshState t) ≡ true
-  unfolding freshState
-  fresh-sound =
-      state-parts (freshState t) .1 record {
-        table = h;
-        entries = entries-sound (t .servers) (table-every t h);
-        refills =
-            held-each (serverReaches (t .servers)) (freshQueue serverAway (t .servers)) .1
-            (fresh-held serverAway zeroServer (t .servers) (serverReaches (t .servers)) refl (server-delayed t h) refill-near);
-        spent = fresh-spent (t .servers);
-      }
-
-  -- and it is what the call makes
-  pub fresh-made : freshOf t ≡ madeWith none (freshState t)
-  fresh-made = fresh-done t (fresh-accepted t .1 h)
-
-  -- "each budget is C"; but "at setup .. a polling server with no pending work has its budget set to 0" (document 02, #101)
-  pub fresh-budget : (i : ℕ) → budgetAt (freshState t) i ≡ pick (lapsesAt (freshState t) i) 0 (fullAt (freshState t) i)
-  unfolding freshState freshEntry
-  fresh-budget i = let s = getD (t .servers) i zeroServer in lapsed-budget s (filledEntry s) _ (entries-fresh (t .servers) i)
-
-  -- "each replenishment is P away"
-  pub fresh-refill : (i : ℕ) → refillAway (freshState t) i ≡ periodAt (freshState t) i
-  unfolding freshState
-  fresh-refill = fresh-away serverAway zeroServer (t .servers) (serverReaches (t .servers)) refl (server-delayed t h) refill-near
-
-  -- "A periodic task with O = 0 has work E and its next arrival T away; with O > 0, work 0 and its arrival O away."
-  pub fresh-load : (i j : ℕ) → loadAt (freshState t) i j ≡ freshLoad (taskAt (serverAt (freshState t) i) j)
-  unfolding freshState freshEntry
-  fresh-load i j =
-      let s = getD (t .servers) i zeroServer in
-      ap (λ (e : Entry). getD (e .loads) j zeroLoad) (entries-fresh (t .servers) i)
-      ∙ lapsed-keeps s (filledEntry s) (λ (e : Entry). getD (e .loads) j zeroLoad) refl
-      ∙ loads-fresh (s .tasks) j
-
-  pub fresh-arrival : (i j : ℕ) → arrivalAway (freshState t) i j ≡ taskAway (taskAt (serverAt (freshState t) i) j)
-  unfolding freshState
-  fresh-arrival i j =
-      ap (λ (e : Entry). away j (e .arrivals)) (entries-fresh (t .servers) i)
-      ∙ entry-away (getD (t .servers) i zeroServer) (every-at (t .servers) (table-every t h) i) j
+-- a replenishment is no further away than its reach
+pub refill-near : (t : Table) (j : ℕ) → periodIn t j ≤ getD (serverReaches (t .servers)) j 0
+refill-near t j = rw (server-reach (t .servers) j) (omega arith)

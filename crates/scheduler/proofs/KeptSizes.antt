@@ -21,7 +21,7 @@ use Rattle.scheduler.specs.declared.Load.{Load}
 use Rattle.scheduler.specs.declared.Entry.{Entry}
 use Rattle.scheduler.specs.declared.State.{State}
 use Rattle.scheduler.proofs.Lapsing.{lapsed-keeps, lapsed-at, lapsed-length}
-use Rattle.scheduler.proofs.Unchanged.{arrive-either}
+use Rattle.scheduler.proofs.Reached.{arrive-either}
 
 -- how many loads the entry at a place has
 abbrev loadCount : List Entry → ℕ → ℕ

@@ -1,70 +1,173 @@
--- Steps 3 and 4 of a tick for each server in use and what it gives up at the end, and what an arrival leaves alone. The arrays have their lengths. Assumes nothing.
-use mathlib.Core.Path.{_≡_, refl, ap, _∙_}
+-- WHAT THE CALLS DO, sentence by sentence: the fresh state, the four steps of a tick for each server and each task, what polling servers give up, and an arrival. The
+-- arrays have their lengths. Assumes nothing.
+use mathlib.Core.Path.{_≡_, refl, ap, _∙_, sym}
 use mathlib.Core.Bool.{Bool, true, false}
 use mathlib.Core.List.{List, [], _∷_}
 use mathlib.Core.Logic.{_↔_, _≢_}
-use Prim.Native.Nat.{ℕ, zero, suc, _-_, _<_}
+use Prim.Native.Nat.{ℕ, zero, suc, _-_, _<_, _≤_, _+_}
 use native.Mathlib.Omega.{arith}
-use lib.Dec.{eqb}
+use lib.Dec.{eqb, ltb, leb}
 use lib.ListN.{length, getD}
-use borrow.Author.Tests.{eq-eqb, ne-eqb, eqb-true, not-true}
-use Rattle.small.specs.Small.{pick, alter}
-use Rattle.small.proofs.Tests.{both-left, both-right, both-false}
+use borrow.Author.Tests.{eq-eqb, ne-eqb, eqb-true, not-true, le-ltb, ltb-true, ltb-false, leb-true, leb-false, le-leb, lt-leb}
+use Rattle.small.specs.Small.{pick, alter, both}
+use Rattle.small.proofs.Tests.{both-left, both-right, both-false, contrary}
 use Rattle.small.proofs.Altered.{length-alter, read-altered, alter-keeps}
-use Rattle.queue.proofs.DueTimes.{there}
+use Rattle.refusal.specs.Refusal.{none}
+use Rattle.queue.proofs.DueTimes.{there, away}
+use Rattle.queue.specs.Limits.{longest, maxGap}
+use Rattle.queue.specs.Row.{eventsOf}
+use Rattle.queue.specs.Sound.{soundb}
+use Rattle.queue.proofs.SoundLaws.{sound-is}
+use Rattle.queue.proofs.Keeps.{clock-sound}
 use Rattle.table.specs.Kind.{pollingKind}
-use Rattle.table.specs.Limits.{entries}
-use Rattle.table.specs.declared.Server.{Server}
-use Rattle.scheduler.specs.State.{zeroEntry, withBudget, serverAt, entryAt, taskAt}
-use Rattle.scheduler.specs.Sound.{serverReaches, stateb}
-use Rattle.scheduler.specs.Choice.{somePending, wantsb, chosenOf, choiceOf, servesb}
-use Rattle.scheduler.specs.Arrive.{withArrival, withLoads, arriveOf}
+use Rattle.table.specs.Limits.{entries, mostWork}
+use Rattle.table.specs.Table.{zeroServer, periodOf}
+use Rattle.table.specs.Sound.{tableb}
+use Rattle.table.specs.declared.Table.{Table}
+use Rattle.scheduler.specs.State.{zeroEntry, serverAt, entryAt, taskAt, zeroLoad, mostPending, load, loadAt}
+use Rattle.scheduler.specs.Sound.{serverReaches, stateb, taskReaches}
+use Rattle.scheduler.specs.Choice.{somePending, wantsb, chosenOf, choiceOf, servesb, firstPending, choiceNumber}
+use Rattle.scheduler.specs.Arrive.{withArrival, withLoads, arriveOf, arrivalBy, arrivalNumber, lostAfter, loadAfter}
 use Rattle.scheduler.specs.Moves.{chargedEntries, handledEntries}
-use Rattle.scheduler.specs.Tick.{charge, dueIn, refilled, periodAt, fullAt, served4, eachEntry, stateAfter}
-use Rattle.scheduler.specs.Meaning.{SizedState, pendingAt, budgetAt, lapsesAt, refillAway, SoundState, Spent, Filled}
+use Rattle.scheduler.specs.Tick.{charge, dueIn, periodAt, fullAt, served4, stateAfter, tickOf, lessWork, clocked, handledOf}
+use Rattle.scheduler.specs.Meaning.{SizedState, pendingAt, budgetAt, lapsesAt, refillAway, SoundState, Spent, Filled, readyAt, Chosen, arrivalThere, arrivalAway, runsb, dueNext}
+use Rattle.scheduler.specs.Meaning.{allDueNext}
 use Rattle.scheduler.specs.declared.Entry.{Entry}
 use Rattle.scheduler.specs.declared.State.{State}
-use Rattle.scheduler.proofs.Words.{state-sound}
-use Rattle.scheduler.proofs.Lapsing.{lapsed-budget, lapsed-at, pending-kept}
-use Rattle.scheduler.proofs.Choosing.{some-none}
-use Rattle.scheduler.proofs.Unchanged.{arrive-either}
-use Rattle.scheduler.proofs.FirstReady.{serves-chosen}
-use Rattle.scheduler.proofs.Again.{inb, held-due, held-moved}
-use Rattle.scheduler.proofs.TickSound.{state-parts, server-delayed, refills-each}
+use Rattle.scheduler.specs.declared.Load.{Load}
+use Rattle.scheduler.specs.declared.Choice.the-variants.{Idle, Burning, Running}
+use Rattle.scheduler.specs.Fresh.{taskAway, serverAway, freshLoad, filledEntry, freshEntry, freshState, madeWith, freshOf}
+use Rattle.scheduler.proofs.Soundness.{state-sound}
+use Rattle.scheduler.proofs.Lapsing.{lapsed-budget, lapsed-at, pending-kept, lapsed-keeps}
+use Rattle.scheduler.proofs.Choosing.{some-none, first-pending, some-first}
+use Rattle.scheduler.proofs.Reached.{arrive-either}
+use Rattle.scheduler.proofs.AgainLaws.{inb, held-due, held-moved}
+use Rattle.scheduler.proofs.TickSound.{state-parts, server-delayed, refills-each, tick-accepts, table-every}
+use Rattle.scheduler.proofs.Answers.{arrive-done, fresh-done}
+use Rattle.scheduler.proofs.Refusals.{fresh-accepted}
+use Rattle.scheduler.proofs.Budgets.{each-budget, refilled-budget, charged-budget}
+use Rattle.scheduler.proofs.FirstReady.{wants-idling, ready-used, pending-used, chosen, highest, parts}
+use Rattle.scheduler.proofs.TaskLaws.{Once, due-once, arrived-at, before, after, same-arrivals, full-loads, queue, turned, charged-load, held-next, entries-next}
+use Rattle.scheduler.proofs.FreshSound.{fresh-away, entry-away, entries-fresh, loads-fresh, every-at, refill-near}
 
--- BUDGETS
+-- THE FRESH STATE
 
--- step 4 for a server's queue leaves its budget
-each-budget : (ss : List Server) (es : List Entry) (i : ℕ) → getD (eachEntry served4 ss es) i zeroEntry .budget .0 ≡ getD es i zeroEntry .budget .0
-unfolding served4
-each-budget [] es i = refl
-each-budget (s ∷ ss) [] i = refl
-each-budget (s ∷ ss) (e ∷ es) zero = refl
-each-budget (s ∷ ss) (e ∷ es) (suc i) = each-budget ss es i
+module _ (t : Table) (h : tableb longest mostWork t ≡ true) where
+  -- it is what the call makes
+  pub fresh-made : freshOf t ≡ madeWith none (freshState t)
+  fresh-made = fresh-done t (fresh-accepted t .1 h)
 
--- a budget is set where its id is one of those that are due
-refilled-budget : (full : ℕ → ℕ) (ids : List ℕ) (es : List Entry) (i : ℕ) → i < length es
-    → getD (refilled full ids es) i zeroEntry .budget .0 ≡ pick (inb i ids) (full i) (getD es i zeroEntry .budget .0)
-refilled-budget full [] es i l = refl
-refilled-budget full (id ∷ ids) es i l =
-    refilled-budget full ids (alter (withBudget (full id)) es id) i (rw (length-alter (withBudget (full id)) es id) l)
-    ∙ rw (read-altered (withBudget (full id)) es id i zeroEntry l) (go (eqb id i) (inb i ids) refl)
+  -- "each budget is C"; but "at setup .. a polling server with no pending work has its budget set to 0" (document 02, #101)
+  pub fresh-budget : (i : ℕ) → budgetAt (freshState t) i ≡ pick (lapsesAt (freshState t) i) 0 (fullAt (freshState t) i)
+  unfolding freshState freshEntry
+  fresh-budget i = let s = getD (t .servers) i zeroServer in lapsed-budget s (filledEntry s) _ (entries-fresh (t .servers) i)
+
+  -- "each replenishment is P away"
+  pub fresh-refill : (i : ℕ) → refillAway (freshState t) i ≡ periodAt (freshState t) i
+  unfolding freshState
+  fresh-refill = fresh-away serverAway zeroServer (t .servers) (serverReaches (t .servers)) refl (server-delayed t h) (refill-near t)
+
+  -- "A periodic task with O = 0 has work E and its next arrival T away; with O > 0, work 0 and its arrival O away."
+  pub fresh-load : (i j : ℕ) → loadAt (freshState t) i j ≡ freshLoad (taskAt (serverAt (freshState t) i) j)
+  unfolding freshState freshEntry
+  fresh-load i j =
+      let s = getD (t .servers) i zeroServer in
+      ap (λ (e : Entry). getD (e .loads) j zeroLoad) (entries-fresh (t .servers) i)
+      ∙ lapsed-keeps s (filledEntry s) (λ (e : Entry). getD (e .loads) j zeroLoad) refl
+      ∙ loads-fresh (s .tasks) j
+
+  pub fresh-arrival : (i j : ℕ) → arrivalAway (freshState t) i j ≡ taskAway (taskAt (serverAt (freshState t) i) j)
+  unfolding freshState
+  fresh-arrival i j =
+      ap (λ (e : Entry). away j (e .arrivals)) (entries-fresh (t .servers) i)
+      ∙ entry-away (getD (t .servers) i zeroServer) (every-at (t .servers) (table-every t h) i) j
+
+-- STEPS 1 AND 2: who is chosen
+
+module _ (s : State) (z : SizedState s) (h : stateb s ≡ true) where
+  pub chosen-first : Chosen s (choiceOf s)
+  unfolding choiceOf
+  chosen-first = go (ltb k entries) (ltb j entries) refl refl
+    where
+      k : ℕ
+      k = chosenOf s
+
+      ls : List Load
+      ls = entryAt s k .loads
+
+      j : ℕ
+      j = firstPending ls
+
+      none-ready : entries ≤ k → (i : ℕ) → readyAt s i ≡ false
+      none-ready l i = go (readyAt s i) refl
+        where
+          go : (b : Bool) → readyAt s i ≡ b → b ≡ false
+          go true r = contrary r (chosen s z h .above i (omega (arith, ready-used s z h i r, parts s z h .servers .count)))
+          go false r = refl
+
+      go : (a b : Bool) → ltb k entries ≡ a → ltb j entries ≡ b → Chosen s (pick a (pick b (Running k j) (Burning k)) Idle)
+      go false b p q = none-ready (ltb-false k entries p)
+      go true true p q =
+          let l = ltb-true k entries p in
+          let f = first-pending ls zeroLoad in
+          let w = f .here (omega (arith, z .loads k l, ltb-true j entries q)) in
+          (highest s z h l, record { used = pending-used s z h k j l w; pending = w; above = f .above })
+      go true false p q =
+          let l = ltb-true k entries p in
+          let t = highest s z h l in
+          let m : length ls ≤ j = omega (arith, z .loads k l, ltb-false j entries q) in
+          let n : somePending ls ≡ false = rw (some-first ls) (le-ltb j (length ls) m) in
+          (t, record { idling = wants-idling (serverAt s k .kind) (entryAt s k) n (both-left _ _ (t .ready)); none = some-none ls .0 n })
+
+  -- The number of a tick's choice: 0 (idle) exactly when no server wants and has budget; 1 (burning) exactly when the highest that does is an idling server
+  -- without work; 2 (running) exactly when it has work pending, in the first such task of it
+  pub choice-number : let n = choiceNumber (tickOf s .choice) in
+      let k = chosenOf s in
+      (n ≡ 0 ↔ Chosen s Idle) × (n ≡ 1 ↔ Chosen s (Burning k)) × (n ≡ 2 ↔ Chosen s (Running k (firstPending (entryAt s k .loads))))
+  unfolding choiceOf
+  choice-number = rw (tick-accepts s h) (go (ltb k entries) (ltb j entries) chosen-first)
+    where
+      k : ℕ
+      k = chosenOf s
+
+      j : ℕ
+      j = firstPending (entryAt s k .loads)
+
+      go : (a b : Bool) → let c = pick a (pick b (Running k j) (Burning k)) Idle in
+          Chosen s c → (choiceNumber c ≡ 0 ↔ Chosen s Idle) × (choiceNumber c ≡ 1 ↔ Chosen s (Burning k)) × (choiceNumber c ≡ 2 ↔ Chosen s (Running k j))
+      go false b x = (
+        (λ n. x, λ y. refl),
+        (λ n. absurd (omega arith), λ y. contrary (y .0 .ready) (x k)),
+        (λ n. absurd (omega arith), λ y. contrary (y .0 .ready) (x k)),
+      )
+      go true false x = (
+        (λ n. absurd (omega arith), λ y. contrary (x .0 .ready) (y k)),
+        (λ n. x, λ y. refl),
+        (λ n. absurd (omega arith), λ y. contrary (y .1 .pending) (x .1 .none j)),
+      )
+      go true true x = (
+        (λ n. absurd (omega arith), λ y. contrary (x .0 .ready) (y k)),
+        (λ n. absurd (omega arith), λ y. contrary (x .1 .pending) (y .1 .none j)),
+        (λ n. x, λ y. refl),
+      )
+
+-- whom a choice serves
+pub serves-chosen : (s : State) (i : ℕ) → i < entries → servesb (choiceOf s) i ≡ eqb (chosenOf s) i
+unfolding choiceOf
+serves-chosen s i l = go (ltb k entries) (ltb j entries) refl
   where
-    go : (b c : Bool) → eqb id i ≡ b
-        → pick c (full i) (pick b (withBudget (full id) (getD es i zeroEntry)) (getD es i zeroEntry) .budget .0) ≡ pick (pick b true c) (full i) (getD es i zeroEntry .budget .0)
-    go true true e = refl
-    go true false e = ap full (eqb-true id i e)
-    go false c e = refl
+    k : ℕ
+    k = chosenOf s
 
-charged-budget : (es : List Entry) (k i : ℕ) → i < length es → getD (alter charge es k) i zeroEntry .budget .0 ≡ getD es i zeroEntry .budget .0 - pick (eqb k i) 1 0
-unfolding charge
-charged-budget es k i l = rw (read-altered charge es k i zeroEntry l) (go (eqb k i))
-  where
-    go : (c : Bool) → pick c (charge (getD es i zeroEntry)) (getD es i zeroEntry) .budget .0 ≡ getD es i zeroEntry .budget .0 - pick c 1 0
-    go true = refl
-    go false = omega arith
+    j : ℕ
+    j = firstPending (entryAt s k .loads)
 
--- A TICK, for each server in use
+    go : (a b : Bool) → ltb k entries ≡ a → servesb (pick a (pick b (Running k j) (Burning k)) Idle) i ≡ eqb k i
+    go true true p = refl
+    go true false p = refl
+    go false b p = sym (ne-eqb k i (λ e. omega (arith, ltb-false k entries p)))
+
+-- STEPS 3 AND 4, for each server in use: its budget and its replenishment
 
 module _ (s : State) (z : SizedState s) (h : stateb s ≡ true) (i : ℕ) (u : i < s .table .count) where
   known : SoundState s
@@ -151,7 +254,90 @@ not-polling s i n = rw (ne-eqb (serverAt s i .kind) pollingKind n)
 pub working : (s : State) (i : ℕ) → somePending (entryAt s i .loads) ≡ true → lapsesAt s i ≡ false
 working s i w = rw (w, both-false (eqb (serverAt s i .kind) pollingKind))
 
--- AN ARRIVAL changes neither a budget nor the replenishments, nor the table
+-- STEPS 3 AND 4, for each task: its work and its arrivals
+
+module _ (s : State) (z : SizedState s) (h : stateb s ≡ true) (i : ℕ) (l : i < entries) where
+  -- "go in again T away", and every other comes 1 nearer: the same arrivals are there
+  pub tick-arrivals : (j : ℕ) → arrivalThere (stateAfter s) i j ≡ arrivalThere s i j
+  tick-arrivals = turned s z h i l .same
+
+  pub tick-arrival : (j : ℕ) → arrivalThere s i j ≡ true
+      → arrivalAway (stateAfter s) i j ≡ pick (eqb (arrivalAway s i j) 1) (periodOf (taskAt (serverAt s i) j .release)) (arrivalAway s i j - 1)
+  tick-arrival = turned s z h i l .moved
+
+  module _ (j : ℕ) (m : j < entries) where
+    -- the task's arrival is due in the tick
+    abbrev pub arrives : Bool
+    arrives = both (arrivalThere s i j) (eqb (arrivalAway s i j) 1)
+
+    -- "The server's budget and the chosen task's work fall by 1." "Then due task arrivals, by server rank, add E": or it is lost (`load-lost`)
+    pub tick-load : let l = pick (runsb (choiceOf s) i j) (lessWork (loadAt s i j)) (loadAt s i j) in
+        loadAt (stateAfter s) i j ≡ pick arrives (loadAfter (taskAt (serverAt s i) j .work .0) l) l
+    unfolding served4
+    tick-load =
+        let q = entryAt s i .arrivals in
+        let c : soundb maxGap longest (clocked q) ≡ true = clock-sound maxGap longest q (omega arith) (queue s z h i l .sound) in
+        let o : Once (dueIn q) = due-once (eventsOf (clocked q)) (sound-is maxGap longest (clocked q) c .distinct) in
+        rw (after s z h i l (λ (e : Entry). getD (e .loads) j zeroLoad) (λ e. refl), same-arrivals s z h i l)
+        (arrived-at (serverAt s i) (dueIn q) (before s z h i l .loads) j o (omega (arith, full-loads s z h i l)) ∙ rw (charged-load s z h i l j m, held-due (taskReaches (serverAt s i .tasks)) q (queue s z h i l) j))
+
+-- what an arrival does to a load: "add E"
+pub load-added : (E : ℕ) (l : Load) → l .pending .0 + E ≤ mostPending → loadAfter E l ≡ load (l .pending .0 + E) (l .lost)
+unfolding loadAfter
+load-added E l h = rw (le-leb (l .pending .0 + E) mostPending h)
+
+-- "An arrival whose E would bring pending work above 1,000,000 is lost and adds 1 to the task's lost count, which stops at 65,535."
+pub load-lost : (E : ℕ) (l : Load) → mostPending < l .pending .0 + E → loadAfter E l ≡ load (l .pending .0) (lostAfter (l .lost))
+unfolding loadAfter
+load-lost E l h = rw (lt-leb (l .pending .0 + E) mostPending h)
+
+-- THE HANDLED COUNT
+
+-- "how many events it handled: replenishments and arrivals, lost ones included. That count equals the events due in step 4."
+pub tick-handled : (s : State) → SizedState s → stateb s ≡ true → handledOf s ≡ dueNext (eventsOf (s .refills)) + allDueNext (s .entries)
+unfolding handledOf
+tick-handled s z h =
+    let p = state-parts s .0 h in
+    rw (held-next (serverReaches (s .table .servers)) (s .refills) (p .refills), entries-next (s .table .servers) (s .entries) (omega (arith, z .table .servers, z .servers)) (p .entries))
+
+-- A TICK "hands the whole table back" as it was
+pub tick-table : (s : State) → stateAfter s .table ≡ s .table
+unfolding stateAfter
+tick-table s = refl
+
+-- AN ARRIVAL
+
+-- "It says accepted or lost.": the number of what a call that is not refused says is 0 (accepted) exactly when the pending work with E is at most 1,000,000,
+-- and 1 (lost) exactly when it would be above
+pub arrival-number : (s : State) (i j : ℕ) → arriveOf s i j .refusal .number ≡ 0 → let n = arrivalNumber (arriveOf s i j .arrival) in
+    let w = loadAt s i j .pending .0 + taskAt (serverAt s i) j .work .0 in
+    (n ≡ 0 ↔ (w ≤ mostPending)) × (n ≡ 1 ↔ (mostPending < w))
+arrival-number s i j a = rw (arrive-done s i j a) (go (leb w mostPending) refl)
+  where
+    w : ℕ
+    w = loadAt s i j .pending .0 + taskAt (serverAt s i) j .work .0
+
+    go : (b : Bool) → leb w mostPending ≡ b → (arrivalNumber (arrivalBy b) ≡ 0 ↔ (w ≤ mostPending)) × (arrivalNumber (arrivalBy b) ≡ 1 ↔ (mostPending < w))
+    go true e = let l = leb-true w mostPending e in ((λ n. l, λ m. refl), (λ n. absurd (omega arith), λ m. absurd (omega arith)))
+    go false e = let l = leb-false w mostPending e in ((λ n. absurd (omega arith), λ m. absurd (omega arith)), (λ n. l, λ m. refl))
+
+-- an arrival call that is not refused: its task's load takes it, and every other load is as it was
+pub arrive-load : (s : State) → SizedState s → (i j : ℕ) → arriveOf s i j .refusal .number ≡ 0 → (k m : ℕ) → k < entries → m < entries
+    → loadAt (arriveOf s i j .state) k m ≡ pick (both (eqb i k) (eqb j m)) (loadAfter (taskAt (serverAt s i) j .work .0) (loadAt s k m)) (loadAt s k m)
+arrive-load s z i j a k m l n =
+    rw (arrive-done s i j a, read-altered f (s .entries) i k zeroEntry (omega (arith, z .servers))) (go (eqb i k))
+  where
+    E : ℕ
+    E = taskAt (serverAt s i) j .work .0
+
+    f : Entry → Entry
+    f e = withLoads (withArrival E j (e .loads)) e
+
+    go : (b : Bool) → getD (pick b (f (entryAt s k)) (entryAt s k) .loads) m zeroLoad ≡ pick (both b (eqb j m)) (loadAfter E (loadAt s k m)) (loadAt s k m)
+    go true = read-altered (loadAfter E) (entryAt s k .loads) j m zeroLoad (omega (arith, z .loads k l))
+    go false = refl
+
+-- it changes neither a budget nor the replenishments, nor the table
 pub arrive-budget : (s : State) (i j k : ℕ) → budgetAt (arriveOf s i j .state) k ≡ budgetAt s k
 arrive-budget s i j k = arrive-either s i j (λ (x : State). budgetAt x k ≡ budgetAt s k) refl λ a. alter-keeps _ (λ (e : Entry). e .budget .0) (λ e. refl) (s .entries) i k zeroEntry
 
@@ -175,8 +361,3 @@ arrive-pending s i j k h = arrive-either s i j (λ (x : State). somePending (ent
     go (e ∷ es) zero (suc k) h = h
     go (e ∷ es) (suc i) zero h = h
     go (e ∷ es) (suc i) (suc k) h = go es i k h
-
--- and a tick not the table
-pub tick-table : (s : State) → stateAfter s .table ≡ s .table
-unfolding stateAfter
-tick-table s = refl

@@ -1,25 +1,29 @@
+-- PROMISED: what docs/ASSURANCE.md names
+pub mod Refusals
+pub mod Unchanged
+pub mod OneOutcome
+pub mod Soundness
+pub mod Keeps
+pub mod Laws
+pub mod Points
+-- WHAT ONLY SERVES
 pub mod Stated
 pub mod Lapsing
 pub mod Sizes
 pub mod Choosing
+pub mod Answers
 pub mod Reached
-pub mod Refusals
-pub mod Unchanged
 pub mod HeldEach
-pub mod Words
-pub mod Again
+pub mod AgainLaws
 pub mod Turns
 pub mod TickSound
 pub mod FreshSound
 pub mod FirstReady
-pub mod Laws
 pub mod KeptSizes
+pub mod Budgets
 pub mod TaskLaws
 pub mod Arrivals
 pub mod Refilling
 pub mod TickParts
 pub mod Runs
 pub mod Freshly
-pub mod Points
-pub mod PollingPoints
-pub mod OneOutcome

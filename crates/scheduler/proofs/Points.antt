@@ -13,6 +13,7 @@ use Rattle.scheduler.specs.Arrive.{loadAfter, arriveOf}
 use Rattle.scheduler.specs.Tick.{charge, turnOf, roomOf, served4, stateAfter, handledOf, againb, tickOf}
 use Rattle.scheduler.specs.Fresh.{freshQueue, freshEntry, freshState, freshOf}
 use Rattle.scheduler.specs.Edge.{SchedulerEdge}
+use Rattle.scheduler.specs.PollingEdge.{PollingEdge}
 
 pub edge : SchedulerEdge
 unfolding insertOf clockOf takeOf holdsb soundb sameb cellsOf queueOf cellsFor tableb entryb stateb wantsb chosenOf choiceOf loadAfter arriveOf charge turnOf roomOf served4 stateAfter handledOf againb tickOf freshQueue freshEntry freshState freshOf lapsed
@@ -30,4 +31,27 @@ edge =
       arrival-accepted = refl;
       arrival-says = refl;
       eight = refl;
+    }
+
+-- polling servers
+pub polling-edge : PollingEdge
+unfolding insertOf clockOf takeOf holdsb soundb sameb cellsOf queueOf cellsFor tableb entryb stateb wantsb chosenOf choiceOf lapsed loadAfter arriveOf charge turnOf roomOf served4 stateAfter handledOf againb tickOf freshQueue freshEntry freshState freshOf
+polling-edge =
+    record {
+      polled-fresh = refl;
+      polled-eight = refl;
+      polls-fresh = refl;
+      polls-budgets = refl;
+      later-fresh = refl;
+      later-budgets = refl;
+      called-budgets = refl;
+      called-answers = refl;
+      busy-budgets = refl;
+      two-budgets = refl;
+      idle-sound = refl;
+      idle-funded = refl;
+      idle-refused = refl;
+      working-unfunded = refl;
+      working-one = refl;
+      working-full = refl;
     }

@@ -1,19 +1,23 @@
--- A task of a sound state, for an arrival at it. Assumes nothing.
-use mathlib.Core.Path.{_≡_}
-use mathlib.Core.Bool.{true}
+-- A task of a sound state, for an arrival at it; and the state behind an arrival, accepted or refused. Assumes nothing.
+use mathlib.Core.Path.{_≡_, refl}
+use mathlib.Core.Bool.{true, Bool, false}
 use mathlib.Core.List.{List}
 use Prim.Native.Nat.{ℕ, _≤_, _<_}
 use native.Mathlib.Omega.{arith}
 use lib.ListN.{length, getD, set}
+use lib.Dec.{eqb}
+use borrow.Author.Tests.{eqb-true, eqb-false}
 use Rattle.small.specs.Small.{alter}
 use Rattle.small.proofs.Altered.{set-alter}
 use Rattle.table.specs.Limits.{mostWork, entries}
 use Rattle.scheduler.specs.State.{mostPending, zeroLoad, serverAt, entryAt, taskAt}
 use Rattle.scheduler.specs.Sound.{stateb}
-use Rattle.scheduler.specs.Arrive.{loadAfter, withArrival, withLoads}
+use Rattle.scheduler.specs.Arrive.{loadAfter, withArrival, withLoads, arrivedState, arriveOf}
 use Rattle.scheduler.specs.declared.Entry.{Entry}
 use Rattle.scheduler.specs.declared.State.{State}
 use Rattle.scheduler.proofs.Stated.{Eight, stated, entry-stated, server-stated, loads-below, below-at, work-below}
+use Rattle.scheduler.proofs.Answers.{arrive-done}
+use Rattle.scheduler.proofs.Unchanged.{arrive-unchanged}
 
 -- its places are entries, and its work and what is pending are in range
 pub record Reached (s : State) (i j : ℕ) : Type 0 where
@@ -41,3 +45,12 @@ pub arrival-stored : (es : List Entry) (i j E : ℕ) (z : Entry) → let e = get
 arrival-stored es i j E z h l =
     let e = getD es i z in
     rw (set-alter (loadAfter E) (e .loads) j zeroLoad l) (set-alter (λ (e : Entry). withLoads (withArrival E j (e .loads)) e) es i z h)
+
+module _ (s : State) (i j : ℕ) where
+  -- what holds of the state as it was, and with the arrival, holds of the state behind the call
+  pub arrive-either : (P : State → Type 0) → P s → (arriveOf s i j .refusal .number ≡ 0 → P (arrivedState s i j)) → P (arriveOf s i j .state)
+  arrive-either P kept next = go (eqb (arriveOf s i j .refusal .number) 0) refl
+    where
+      go : (b : Bool) → eqb (arriveOf s i j .refusal .number) 0 ≡ b → P (arriveOf s i j .state)
+      go true e = let a = eqb-true (arriveOf s i j .refusal .number) 0 e in rw (arrive-done s i j a) (next a)
+      go false e = rw (arrive-unchanged s i j (eqb-false (arriveOf s i j .refusal .number) 0 e) .0) kept

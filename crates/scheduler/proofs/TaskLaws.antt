@@ -1,57 +1,53 @@
--- Steps 3 and 4 of a tick for each task: its work, its arrivals and its lost count; an arrival; and the handled count. Assumes nothing.
+-- Steps 3 and 4 of a tick in one entry of the state: its loads and its queue of arrivals; and how many events are due. Assumes nothing.
 use mathlib.Core.Path.{_≡_, refl, sym, ap, _∙_}
 use mathlib.Core.Bool.{Bool, true, false, not}
 use mathlib.Core.List.{List, [], _∷_}
-use mathlib.Core.Logic.{_↔_}
 use Prim.Native.Nat.{ℕ, zero, suc, _+_, _-_, _≤_, _<_}
 use native.Mathlib.Omega.{arith}
-use lib.Dec.{leb, ltb, eqb}
+use lib.Dec.{ltb, eqb}
 use lib.ListN.{length, getD}
-use borrow.Author.Tests.{leb-true, leb-false, ltb-false, ne-eqb, eqb-true, not-true, le-leb, lt-leb}
+use borrow.Author.Tests.{ltb-false, ne-eqb, eqb-true, not-true}
 use Rattle.small.specs.Small.{pick, both, alter}
 use Rattle.small.proofs.Tests.{both-left, both-right, both-false, neither-right, contrary}
 use Rattle.small.proofs.Altered.{length-alter, read-altered, alter-keeps}
 use Rattle.queue.specs.Limits.{maxGap, longest}
 use Rattle.queue.specs.Row.{Event, eventsOf}
-use Rattle.queue.specs.Sound.{hasb, distinctb, soundb}
+use Rattle.queue.specs.Sound.{hasb, distinctb}
 use Rattle.queue.specs.Holds.{holdsb}
 use Rattle.queue.specs.Calls.{dueb, earlier}
 use Rattle.queue.specs.declared.Queue.{Queue}
-use Rattle.queue.proofs.SoundLaws.{sound-is}
 use Rattle.queue.proofs.Events.{not-due}
 use Rattle.queue.proofs.Refusals.{clock-accepted}
 use Rattle.queue.proofs.Laws.{clock-events}
-use Rattle.queue.proofs.Keeps.{clock-sound}
 use Rattle.table.specs.Limits.{entries}
-use Rattle.table.specs.Table.{periodOf, zeroServer}
+use Rattle.table.specs.Table.{zeroServer}
 use Rattle.table.specs.declared.Server.{Server}
-use Rattle.scheduler.specs.State.{mostPending, load, zeroLoad, zeroEntry, withBudget, serverAt, entryAt, taskAt, loadAt}
-use Rattle.scheduler.specs.Sound.{taskReaches, serverReaches, entryb, entriesb, stateb}
+use Rattle.scheduler.specs.State.{zeroLoad, zeroEntry, withBudget, serverAt, entryAt, taskAt, loadAt}
+use Rattle.scheduler.specs.Sound.{taskReaches, entryb, entriesb, stateb}
 use Rattle.scheduler.specs.Choice.{firstPending, chosenOf, choiceOf}
-use Rattle.scheduler.specs.Arrive.{arrivalBy, arrivalNumber, lostAfter, loadAfter, withArrival, withLoads, arriveOf}
+use Rattle.scheduler.specs.Arrive.{loadAfter}
 use Rattle.scheduler.specs.Moves.{chargedEntries, handledEntries}
-use Rattle.scheduler.specs.Tick.{lessWork, charge, clocked, dueIds, dueIn, refilled, fullAt, taskDelay, arrivedLoads, served4, eachEntry, dueEvents, stateAfter, handledOf}
-use Rattle.scheduler.specs.Meaning.{SizedState, arrivalThere, arrivalAway, runsb, dueNext, allDueNext}
+use Rattle.scheduler.specs.Tick.{lessWork, charge, clocked, dueIds, dueIn, refilled, fullAt, taskDelay, arrivedLoads, served4, eachEntry, dueEvents, stateAfter}
+use Rattle.scheduler.specs.Meaning.{SizedState, runsb, dueNext, allDueNext}
 use Rattle.scheduler.specs.declared.Load.{Load}
 use Rattle.scheduler.specs.declared.Entry.{Entry}
 use Rattle.scheduler.specs.declared.State.{State}
 use Rattle.scheduler.specs.declared.Choice.the-variants.{Idle, Burning, Running}
-use Rattle.scheduler.proofs.Unchanged.{arrive-done}
 use Rattle.scheduler.proofs.Stated.{Stated, stated, entry-stated, every-server}
 use Rattle.scheduler.proofs.Lapsing.{lapsed-keeps, lapsed-at}
 use Rattle.scheduler.proofs.KeptSizes.{charge-count, before-length}
 use Rattle.scheduler.proofs.HeldEach.{HeldEach, held-each, held-rests}
-use Rattle.scheduler.proofs.Again.{inb, ids-in, one-away, Moved, held-due, held-moved}
-use Rattle.scheduler.proofs.TickSound.{task-delayed, state-parts}
+use Rattle.scheduler.proofs.AgainLaws.{inb, ids-in, one-away, Moved, held-moved}
+use Rattle.scheduler.proofs.TickSound.{task-delayed}
 
 -- THE DUE ARRIVALS OF ONE SERVER
 
 -- no id stands in the list twice
-abbrev Once : List ℕ → Type 0
+abbrev pub Once : List ℕ → Type 0
 Once [] = Unit
 Once (id ∷ ids) = (inb id ids ≡ false) × Once ids
 
-due-once : (es : List Event) → distinctb es ≡ true → Once (dueIds es)
+pub due-once : (es : List Event) → distinctb es ≡ true → Once (dueIds es)
 due-once [] d = tt
 due-once (e ∷ es) d = go (eqb (e .at) 0) (due-once es rest)
   where
@@ -66,7 +62,7 @@ due-once (e ∷ es) d = go (eqb (e .at) 0) (due-once es rest)
     go false r = r
 
 -- a task's load takes its arrival where its id is one of those that are due
-arrived-at : (s : Server) (ids : List ℕ) (ls : List Load) (j : ℕ) → Once ids → j < length ls
+pub arrived-at : (s : Server) (ids : List ℕ) (ls : List Load) (j : ℕ) → Once ids → j < length ls
     → getD (arrivedLoads s ids ls) j zeroLoad ≡ pick (inb j ids) (loadAfter (taskAt s j .work .0) (getD ls j zeroLoad)) (getD ls j zeroLoad)
 arrived-at s [] ls j o l = refl
 arrived-at s (id ∷ ids) ls j o l =
@@ -120,11 +116,11 @@ module _ (s : State) (z : SizedState s) (h : stateb s ≡ true) (i : ℕ) (l : i
   parts = stated s record { servers = z .table .servers; entries = z .servers } .0 h
 
   -- the entry before step 4
-  abbrev before : Entry
+  abbrev pub before : Entry
   before = getD (refilled (fullAt s) (dueIn (s .refills)) (chargedEntries s)) i zeroEntry
 
   -- what the tick makes of it, but for the budget, which may be given up
-  after : {A : Type 0} (f : Entry → A) → ((e : Entry) → f (withBudget 0 e) ≡ f e) → f (entryAt (stateAfter s) i) ≡ f (served4 (serverAt s i) before)
+  pub after : {A : Type 0} (f : Entry → A) → ((e : Entry) → f (withBudget 0 e) ≡ f e) → f (entryAt (stateAfter s) i) ≡ f (served4 (serverAt s i) before)
   unfolding stateAfter
   after f k =
       let n = before-length s ∙ z .servers in
@@ -132,7 +128,7 @@ module _ (s : State) (z : SizedState s) (h : stateb s ≡ true) (i : ℕ) (l : i
       ∙ lapsed-keeps (serverAt s i) (getD (handledEntries s) i zeroEntry) f (k _)
       ∙ ap f (each-at served4 (s .table .servers) _ i (omega (arith, z .table .servers)) (omega arith))
 
-  same-arrivals : before .arrivals ≡ entryAt s i .arrivals
+  pub same-arrivals : before .arrivals ≡ entryAt s i .arrivals
   unfolding charge
   same-arrivals =
       refilled-keeps (λ (e : Entry). e .arrivals) (λ n e. refl) (fullAt s) (dueIn (s .refills)) (chargedEntries s) i
@@ -141,32 +137,24 @@ module _ (s : State) (z : SizedState s) (h : stateb s ≡ true) (i : ℕ) (l : i
   same-loads : before .loads ≡ getD (chargedEntries s) i zeroEntry .loads
   same-loads = refilled-keeps (λ (e : Entry). e .loads) (λ n e. refl) (fullAt s) (dueIn (s .refills)) (chargedEntries s) i
 
-  full-loads : length (before .loads) ≡ entries
+  pub full-loads : length (before .loads) ≡ entries
   full-loads =
       ap length same-loads
       ∙ alter-keeps charge (λ (e : Entry). length (e .loads)) charge-count (s .entries) (chosenOf s) i zeroEntry
       ∙ z .loads i l
 
-  queue : HeldEach (taskReaches (serverAt s i .tasks)) (entryAt s i .arrivals)
+  pub queue : HeldEach (taskReaches (serverAt s i .tasks)) (entryAt s i .arrivals)
   queue = held-each (taskReaches (serverAt s i .tasks)) (entryAt s i .arrivals) .0 (entry-stated (serverAt s i) (entryAt s i) .0 (parts .entry i l) .arrivals)
 
-  turned : Moved (taskDelay (serverAt s i)) (entryAt s i .arrivals) (entryAt (stateAfter s) i .arrivals)
+  pub turned : Moved (taskDelay (serverAt s i)) (entryAt s i .arrivals) (entryAt (stateAfter s) i .arrivals)
   unfolding served4
   turned =
       let m = held-moved (taskDelay (serverAt s i)) (taskReaches (serverAt s i .tasks)) (entryAt s i .arrivals) queue (λ j r. task-delayed (serverAt s i) (every-server (s .table) (parts .servers) i l) j r .1) in
       rw (after (λ (e : Entry). e .arrivals) (λ e. refl), same-arrivals) m
 
-  -- "go in again T away", and every other comes 1 nearer: the same arrivals are there
-  pub tick-arrivals : (j : ℕ) → arrivalThere (stateAfter s) i j ≡ arrivalThere s i j
-  tick-arrivals = turned .same
-
-  pub tick-arrival : (j : ℕ) → arrivalThere s i j ≡ true
-      → arrivalAway (stateAfter s) i j ≡ pick (eqb (arrivalAway s i j) 1) (periodOf (taskAt (serverAt s i) j .release)) (arrivalAway s i j - 1)
-  tick-arrival = turned .moved
-
   module _ (j : ℕ) (m : j < entries) where
     -- after step 3
-    charged-load : getD (before .loads) j zeroLoad ≡ pick (runsb (choiceOf s) i j) (lessWork (loadAt s i j)) (loadAt s i j)
+    pub charged-load : getD (before .loads) j zeroLoad ≡ pick (runsb (choiceOf s) i j) (lessWork (loadAt s i j)) (loadAt s i j)
     unfolding charge
     charged-load =
         let k = chosenOf s in
@@ -180,63 +168,6 @@ module _ (s : State) (z : SizedState s) (h : stateb s ≡ true) (i : ℕ) (l : i
             (read-altered lessWork (entryAt s i .loads) (firstPending (entryAt s i .loads)) j zeroLoad (omega (arith, z .loads i l)))
         go false p = refl
 
-    -- the task's arrival is due in the tick
-    abbrev pub arrives : Bool
-    arrives = both (arrivalThere s i j) (eqb (arrivalAway s i j) 1)
-
-    -- "The server's budget and the chosen task's work fall by 1." "Then due task arrivals, by server rank, add E": or it is lost (`load-lost`)
-    pub tick-load : let l = pick (runsb (choiceOf s) i j) (lessWork (loadAt s i j)) (loadAt s i j) in
-        loadAt (stateAfter s) i j ≡ pick arrives (loadAfter (taskAt (serverAt s i) j .work .0) l) l
-    unfolding served4
-    tick-load =
-        let q = entryAt s i .arrivals in
-        let c : soundb maxGap longest (clocked q) ≡ true = clock-sound maxGap longest q (omega arith) (queue .sound) in
-        let o : Once (dueIn q) = due-once (eventsOf (clocked q)) (sound-is maxGap longest (clocked q) c .distinct) in
-        rw (after (λ (e : Entry). getD (e .loads) j zeroLoad) (λ e. refl), same-arrivals)
-        (arrived-at (serverAt s i) (dueIn q) (before .loads) j o (omega (arith, full-loads)) ∙ rw (charged-load, held-due (taskReaches (serverAt s i .tasks)) q queue j))
-
--- AN ARRIVAL
-
--- "add E"
-pub load-added : (E : ℕ) (l : Load) → l .pending .0 + E ≤ mostPending → loadAfter E l ≡ load (l .pending .0 + E) (l .lost)
-unfolding loadAfter
-load-added E l h = rw (le-leb (l .pending .0 + E) mostPending h)
-
--- "An arrival whose E would bring pending work above 1,000,000 is lost and adds 1 to the task's lost count, which stops at 65,535."
-pub load-lost : (E : ℕ) (l : Load) → mostPending < l .pending .0 + E → loadAfter E l ≡ load (l .pending .0) (lostAfter (l .lost))
-unfolding loadAfter
-load-lost E l h = rw (lt-leb (l .pending .0 + E) mostPending h)
-
--- "It says accepted or lost.": the number of what a call that is not refused says is 0 (accepted) exactly when the pending work with E is at most 1,000,000,
--- and 1 (lost) exactly when it would be above
-pub arrival-number : (s : State) (i j : ℕ) → arriveOf s i j .refusal .number ≡ 0 → let n = arrivalNumber (arriveOf s i j .arrival) in
-    let w = loadAt s i j .pending .0 + taskAt (serverAt s i) j .work .0 in
-    (n ≡ 0 ↔ (w ≤ mostPending)) × (n ≡ 1 ↔ (mostPending < w))
-arrival-number s i j a = rw (arrive-done s i j a) (go (leb w mostPending) refl)
-  where
-    w : ℕ
-    w = loadAt s i j .pending .0 + taskAt (serverAt s i) j .work .0
-
-    go : (b : Bool) → leb w mostPending ≡ b → (arrivalNumber (arrivalBy b) ≡ 0 ↔ (w ≤ mostPending)) × (arrivalNumber (arrivalBy b) ≡ 1 ↔ (mostPending < w))
-    go true e = let l = leb-true w mostPending e in ((λ n. l, λ m. refl), (λ n. absurd (omega arith), λ m. absurd (omega arith)))
-    go false e = let l = leb-false w mostPending e in ((λ n. absurd (omega arith), λ m. absurd (omega arith)), (λ n. l, λ m. refl))
-
--- an arrival call that is not refused: its task's load takes it, and every other load is as it was
-pub arrive-load : (s : State) → SizedState s → (i j : ℕ) → arriveOf s i j .refusal .number ≡ 0 → (k m : ℕ) → k < entries → m < entries
-    → loadAt (arriveOf s i j .state) k m ≡ pick (both (eqb i k) (eqb j m)) (loadAfter (taskAt (serverAt s i) j .work .0) (loadAt s k m)) (loadAt s k m)
-arrive-load s z i j a k m l n =
-    rw (arrive-done s i j a, read-altered f (s .entries) i k zeroEntry (omega (arith, z .servers))) (go (eqb i k))
-  where
-    E : ℕ
-    E = taskAt (serverAt s i) j .work .0
-
-    f : Entry → Entry
-    f e = withLoads (withArrival E j (e .loads)) e
-
-    go : (b : Bool) → getD (pick b (f (entryAt s k)) (entryAt s k) .loads) m zeroLoad ≡ pick (both b (eqb j m)) (loadAfter E (loadAt s k m)) (loadAt s k m)
-    go true = read-altered (loadAfter E) (entryAt s k .loads) j m zeroLoad (omega (arith, z .loads k l))
-    go false = refl
-
 -- THE HANDLED COUNT
 
 earlier-due : (es : List Event) → dueb es ≡ false → length (dueIds (earlier es)) ≡ dueNext es
@@ -249,22 +180,15 @@ earlier-due (e ∷ es) d =
     go true r = omega arith
     go false r = omega arith
 
-held-next : (reach : List ℕ) (q : Queue) → holdsb maxGap longest reach q ≡ true → length (dueIn q) ≡ dueNext (eventsOf q)
+pub held-next : (reach : List ℕ) (q : Queue) → holdsb maxGap longest reach q ≡ true → length (dueIn q) ≡ dueNext (eventsOf q)
 held-next reach q h =
     let k = held-each reach q .0 h in
     let n = held-rests reach q k in
     let e : eventsOf (clocked q) ≡ earlier (eventsOf q) = clock-events maxGap longest q (omega arith) (clock-accepted maxGap longest q .1 (k .sound, n)) in
     rw e (earlier-due (eventsOf q) n)
 
-entries-next : (ss : List Server) (es : List Entry) → length es ≤ length ss → entriesb ss es ≡ true → dueEvents es ≡ allDueNext es
+pub entries-next : (ss : List Server) (es : List Entry) → length es ≤ length ss → entriesb ss es ≡ true → dueEvents es ≡ allDueNext es
 entries-next ss [] l h = refl
 entries-next [] (e ∷ es) l h = absurd (omega arith)
 entries-next (s ∷ ss) (e ∷ es) l h =
     rw (held-next (taskReaches (s .tasks)) (e .arrivals) (entry-stated s e .0 (both-left _ _ h) .arrivals), entries-next ss es (omega arith) (both-right (entryb s e) _ h))
-
--- "how many events it handled: replenishments and arrivals, lost ones included. That count equals the events due in step 4."
-pub tick-handled : (s : State) → SizedState s → stateb s ≡ true → handledOf s ≡ dueNext (eventsOf (s .refills)) + allDueNext (s .entries)
-unfolding handledOf
-tick-handled s z h =
-    let p = state-parts s .0 h in
-    rw (held-next (serverReaches (s .table .servers)) (s .refills) (p .refills), entries-next (s .table .servers) (s .entries) (omega (arith, z .table .servers, z .servers)) (p .entries))

@@ -38,7 +38,8 @@ use Rattle.table.proofs.Sizes.{pastServer}
 use Rattle.scheduler.proofs.Stated.{every-server, entry-stated, held, Eight, paired-from, stated}
 use Rattle.scheduler.proofs.Lapsing.{lapsed-same, lapsed-given, lapsed-at, lapsed-length}
 use Rattle.scheduler.proofs.Choosing.{FirstOf, first-ready, first-pending}
-use Rattle.scheduler.proofs.TickSound.{state-parts, before-sound, tick-sound}
+use Rattle.scheduler.proofs.Keeps.{tick-sound}
+use Rattle.scheduler.proofs.TickSound.{state-parts, before-sound}
 use Rattle.scheduler.proofs.KeptSizes.{served-length, before-length, tick-length, tick-loads}
 use Rattle.scheduler.proofs.TaskLaws.{each-at}
 use Rattle.scheduler.proofs.Arrivals.{tabled, served-few, served-none}

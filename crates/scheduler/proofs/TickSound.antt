@@ -1,9 +1,9 @@
--- A sound state stays sound under a tick and an arrival, and the tick finds room for every event that is due. No array's length is assumed: what
--- is past the table's count is zero, and so has no event. Assumes nothing.
+-- Why a sound state stays sound under a tick and an arrival (Keeps says that it does): each load, each entry, the queues, and room for every event that is due. No
+-- array's length is assumed: what is past the table's count is zero, and so has no event. Assumes nothing.
 use mathlib.Core.Path.{_≡_, refl, sym, _∙_}
 use mathlib.Core.Bool.{Bool, true, false}
 use mathlib.Core.List.{List, [], _∷_}
-use mathlib.Core.Logic.{_↔_, _≢_}
+use mathlib.Core.Logic.{_↔_}
 use Prim.Native.Nat.{ℕ, zero, suc, _+_, _-_, _≤_, _<_}
 use native.Mathlib.Omega.{arith}
 use lib.Dec.{leb, ltb, eqb}
@@ -12,7 +12,6 @@ use borrow.Author.Tests.{ltb-true, leb-true, le-leb, eq-eqb, eqb-true}
 use Rattle.small.specs.Small.{pick, usedb}
 use Rattle.small.proofs.Tests.{both-left, both-right, contrary}
 use Rattle.small.proofs.Used.{used-any, used-one, in-use}
-use Rattle.refusal.specs.Numbers.{noRoomAgain}
 use Rattle.refusal.specs.Refusal.{none}
 use Rattle.queue.specs.Limits.{maxGap, longest}
 use Rattle.queue.specs.Holds.{holdsb}
@@ -27,21 +26,19 @@ use Rattle.table.specs.declared.Server.{Server}
 use Rattle.table.specs.declared.Table.{Table}
 use Rattle.table.proofs.SoundLaws.{range-within}
 use Rattle.scheduler.specs.State.{mostPending, mostLost, load, withBudget, serverAt, taskAt}
-use Rattle.scheduler.specs.Sound.{releaseReach, taskReaches, serverReaches, loadb, zeroLoadb, entryb, spentb, entriesb, allSpentb, stateb}
+use Rattle.scheduler.specs.Sound.{releaseReach, taskReaches, serverReaches, loadb, zeroLoadb, entryb, entriesb, allSpentb, stateb}
 use Rattle.scheduler.specs.Choice.{firstPending, chosenOf, choiceOf}
-use Rattle.scheduler.specs.Arrive.{fitsb, lostAfter, loadAfter, withArrival, withLoads, arrivedState, arriveOf}
-use Rattle.scheduler.specs.Moves.{chargedEntries, handledEntries}
-use Rattle.scheduler.specs.Tick.{lessWork, charge, dueIn, roomOf, taskDelay, refilled, periodAt, fullAt, refillsTurn, arrivedLoads, arrivalsTurn, served4, eachEntry, allRoomb, stateAfter, handledOf, againb, tickedWith, tickOf}
-use Rattle.scheduler.specs.Run.{stateAfterTicks, ticksIn, runOf}
+use Rattle.scheduler.specs.Arrive.{fitsb, lostAfter, loadAfter, withArrival, withLoads}
+use Rattle.scheduler.specs.Moves.{chargedEntries}
+use Rattle.scheduler.specs.Tick.{lessWork, charge, dueIn, roomOf, taskDelay, refilled, periodAt, fullAt, arrivedLoads, arrivalsTurn, served4, eachEntry, allRoomb, stateAfter, handledOf, againb, tickedWith, tickOf}
 use Rattle.scheduler.specs.declared.Load.{Load}
 use Rattle.scheduler.specs.declared.Entry.{Entry}
 use Rattle.scheduler.specs.declared.State.{State}
 use Rattle.scheduler.proofs.Stated.{EntryStated, entry-stated, ServerStated, server-stated, zero-stated, server-reach, task-reach, paired-one}
-use Rattle.scheduler.proofs.Lapsing.{entries-lapsed, all-spent, arrived-spent}
-use Rattle.scheduler.proofs.Refusals.{tick-30, tick-accepted, arrive-accepted, run-accepted}
-use Rattle.scheduler.proofs.Unchanged.{tick-done, arrive-either, run-done}
+use Rattle.scheduler.proofs.Refusals.{tick-accepted}
+use Rattle.scheduler.proofs.Answers.{tick-done}
 use Rattle.scheduler.proofs.HeldEach.{HeldEach, held-each, held-reached}
-use Rattle.scheduler.proofs.Again.{inb, Delayed, held-accepted, held-again, held-due}
+use Rattle.scheduler.proofs.AgainLaws.{inb, Delayed, held-accepted, held-again, held-due}
 
 -- LOADS
 
@@ -106,7 +103,7 @@ fill-sound s e h =
     entry-stated s (withBudget (s .budget .0) e) .1 record { budget = omega arith; loads = p .loads; arrivals = p .arrivals }
 
 -- an arrival of a task in use
-load-sound : (s : Server) (E j : ℕ) → j < s .count → (e : Entry) → entryb s e ≡ true → entryb s (withLoads (withArrival E j (e .loads)) e) ≡ true
+pub load-sound : (s : Server) (E j : ℕ) → j < s .count → (e : Entry) → entryb s e ≡ true → entryb s (withLoads (withArrival E j (e .loads)) e) ≡ true
 load-sound s E j l e h =
     let p = entry-stated s e .0 h in
     entry-stated s (withLoads (withArrival E j (e .loads)) e) .1 record {
@@ -190,7 +187,7 @@ every [] n h = tt
 every (s ∷ ss) zero h = (zero-stated s (both-left _ _ h), every ss zero (both-right (zeroServerb s) _ h))
 every (s ∷ ss) (suc n) h = (server-stated s (both-left _ _ h), every ss n (both-right (serverb longest mostWork s) _ h))
 
-entries-served : (ss : List Server) (es : List Entry) → Every ss → entriesb ss es ≡ true → entriesb ss (eachEntry served4 ss es) ≡ true
+pub entries-served : (ss : List Server) (es : List Entry) → Every ss → entriesb ss es ≡ true → entriesb ss (eachEntry served4 ss es) ≡ true
 entries-served [] es k h = refl
 entries-served (s ∷ ss) [] k h = refl
 entries-served (s ∷ ss) (e ∷ es) k h = rw (serve-sound s (k .0) e (both-left _ _ h)) (entries-served ss es (k .1) (both-right (entryb s e) _ h))
@@ -247,7 +244,7 @@ module _ (t : Table) (h : tableb longest mostWork t ≡ true) where
       let u = in-use (serverb longest mostWork) zeroServerb zeroServer refl (t .servers) (t .count) j table-used zero in
       record { place = omega (arith, u .0, table-few); low = omega arith; high = omega arith; near = omega (arith, server-stated s (u .1) .period) }
 
--- A TICK AND AN ARRIVAL
+-- A TICK
 
 module _ (s : State) (h : stateb s ≡ true) where
   state : Parts s
@@ -271,53 +268,5 @@ module _ (s : State) (h : stateb s ≡ true) where
       let a = paired-one entryb charge ss (s .entries) (chosenOf s) (charge-sound (serverAt s (chosenOf s))) (state .entries) in
       entries-refilled ss (dueIn (s .refills)) (chargedEntries s) a
 
-  -- A SOUND STATE STAYS SOUND under a tick
-  pub tick-sound : stateb (stateAfter s) ≡ true
-  unfolding stateAfter
-  tick-sound =
-      let ss = s .table .servers in
-      state-parts (stateAfter s) .1 record {
-        table = state .table;
-        entries = entries-lapsed ss _ (entries-served ss _ (table-every (s .table) (state .table)) before-sound);
-        refills = held-each (serverReaches ss) (refillsTurn s) .1 (held-again (periodAt s) (serverReaches ss) (s .refills) refills-each (server-delayed (s .table) (state .table)));
-        spent = all-spent ss (handledEntries s);
-      }
-
   pub tick-accepts : tickOf s ≡ tickedWith none (choiceOf s) (handledOf s) (stateAfter s)
   tick-accepts = tick-done s (tick-accepted s .1 (h, tick-room))
-
-  pub ticked-sound : stateb (tickOf s .state) ≡ true
-  ticked-sound = rw tick-accepts tick-sound
-
-  -- AND UNDER AN ARRIVAL, accepted, lost or refused
-  pub arrive-sound : (i j : ℕ) → stateb (arriveOf s i j .state) ≡ true
-  arrive-sound i j = arrive-either s i j (λ (x : State). stateb x ≡ true) h next
-    where
-      E : ℕ
-      E = taskAt (serverAt s i) j .work .0
-
-      next : arriveOf s i j .refusal .number ≡ 0 → stateb (arrivedState s i j) ≡ true
-      next a =
-          state-parts (arrivedState s i j) .1 record {
-            table = state .table;
-            entries = paired-one entryb (λ (e : Entry). withLoads (withArrival E j (e .loads)) e) (s .table .servers) (s .entries) i (load-sound (serverAt s i) E j (arrive-accepted s i j .0 a .2)) (state .entries);
-            refills = state .refills;
-            spent = paired-one spentb (λ (e : Entry). withLoads (withArrival E j (e .loads)) e) (s .table .servers) (s .entries) i (arrived-spent E j (serverAt s i)) (state .spent);
-          }
-
--- 30 IS NEVER GIVEN: 8 events and 15 fillers are 23 cells
-pub never-30 : (s : State) → tickOf s .refusal .number ≢ noRoomAgain
-never-30 s e = let r = tick-30 s .0 e in contrary (tick-room s (r .0)) (r .1)
-
--- so a tick is refused exactly where the state is not sound
-pub tick-sound-accepted : (s : State) → tickOf s .refusal .number ≡ 0 ↔ (stateb s ≡ true)
-tick-sound-accepted s = (λ e. tick-accepted s .0 e .0, λ h. tick-accepted s .1 (h, tick-room s h))
-
--- A RUN OF TICKS
-
-pub ticks-sound : (k : ℕ) (s : State) → stateb s ≡ true → stateb (stateAfterTicks k s) ≡ true
-ticks-sound zero s h = h
-ticks-sound (suc k) s h = ticks-sound k (tickOf s .state) (ticked-sound s h)
-
-pub run-sound : (s : State) (k : ℕ) → stateb s ≡ true → stateb (runOf s k .state) ≡ true
-run-sound s k h = rw (run-done s k (run-accepted s k .1 h)) (ticks-sound (ticksIn k) s h)

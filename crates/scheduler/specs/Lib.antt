@@ -1,3 +1,4 @@
+-- BELIEVED: the definitions that contracts and promises speak of
 pub mod State
 pub mod Choice
 pub mod Polling
@@ -6,7 +7,8 @@ pub mod Arrive
 pub mod Tick
 pub mod Run
 pub mod Fresh
-pub mod Moves
 pub mod Meaning
 pub mod Edge
 pub mod PollingEdge
+-- WHAT ONLY SERVES: what private functions give
+pub mod Moves

@@ -1,4 +1,4 @@
--- Polling servers on the edge, worked out by hand from document 02, #101: proofs/PollingPoints.antt computes it.
+-- Polling servers on the edge, worked out by hand from document 02, #101: proofs/Points.antt computes it.
 use mathlib.Core.Path.{_≡_}
 use mathlib.Core.Bool.{true, false}
 use mathlib.Core.List.{List, [], _∷_}

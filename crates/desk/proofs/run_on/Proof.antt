@@ -15,7 +15,7 @@ use Rattle.scheduler.specs.Run.{batchSize, batchWith, runOf}
 use Rattle.scheduler.specs.declared.State.{State}
 use Rattle.scheduler.specs.declared.Batch.{Batch}
 use Rattle.scheduler.proofs.Refusals.{run-accepted}
-use Rattle.scheduler.proofs.Unchanged.{run-done}
+use Rattle.scheduler.proofs.Answers.{run-done}
 use Rattle.desk.specs.Desk.{tickLimit, deskWith, ranWith, ranOf}
 use Rattle.desk.specs.declared.Desk.{Desk}
 use Rattle.desk.specs.declared.Ran.{Ran}

@@ -9,7 +9,7 @@ use Rattle.refusal.specs.Refusal.{none}
 use Rattle.scheduler.specs.Sound.{stateb}
 use Rattle.scheduler.specs.Run.{answersOf, stateAfterTicks, batchWith, runOf}
 use Rattle.scheduler.proofs.Refusals.{run-accepted}
-use Rattle.scheduler.proofs.Unchanged.{run-done}
+use Rattle.scheduler.proofs.Answers.{run-done}
 use Rattle.scheduler.proofs.run.Statement.{statement}
 use Rattle.scheduler.proofs.run.Tie as tie
 

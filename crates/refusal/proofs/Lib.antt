@@ -1,3 +1,4 @@
+-- WHAT ONLY SERVES
 pub mod Decided
 pub mod Exactly
 pub mod Joined

@@ -7,7 +7,10 @@ import sys
 import tempfile
 
 ROOT = pathlib.Path(__file__).resolve().parent.parent
-CRATES = {"refusal": "", "queue": "refusal", "table": "refusal queue", "scheduler": "refusal queue table"}
+ABOVE = "scheduler"
+LINES = dict(line.split(":") for line in (ROOT / "crates.txt").read_text().splitlines() if line and not line.startswith("#"))
+# what the program stands on, bottom to top as crates.txt has it
+CRATES = {crate: below for crate, below in LINES.items() if crate in LINES[ABOVE].split() + [ABOVE]}
 PROGRAM = """use queue::Queue;
 use table::Server;
 use table::Table;
@@ -36,8 +39,8 @@ def copy(work):
         shutil.copytree(ROOT / "crates" / crate, work / "crates" / crate)
     (work / "crates" / "program" / "src").mkdir(parents=True)
     (work / "crates" / "program" / "src" / "main.rt").write_text(PROGRAM)
-    lines = [f"{crate}: {below}\n" for crate, below in CRATES.items()]
-    (work / "crates.txt").write_text("".join(lines) + "program: scheduler table queue refusal\n")
+    lines = [f"{crate}:{below}\n" for crate, below in CRATES.items()]
+    (work / "crates.txt").write_text("".join(lines) + f"program: {' '.join(CRATES)}\n")
 
 
 def rt(work, *words):

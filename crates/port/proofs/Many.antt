@@ -52,68 +52,86 @@ module _ {A : Type 0} (size : ℕ) (g : List ℕ → A) where
     pub full : length xs ≡ n
     pub first : take i xs ≡ manyIn size g i (drop at w)
 
-  module _ (n at : ℕ) (w : List ℕ) (xs : List A) where
-    pub read-none : length xs ≡ n → Read n at w xs 0
-    read-none l = record { few = omega arith; full = l; first = refl }
-
-    -- x is stored at i; k is the place that it is read from
-    pub read-more : {i : ℕ} → Read n at w xs i → i < n → (k : ℕ) (x : A) → k ≡ at + size * i → x ≡ g (drop k w) → Read n at w (set xs i x) (i + 1)
-    read-more {i} r h k x p e =
-        let m : take (i + 1) (set xs i x) ≡ take i xs ++ (x ∷ []) = rw add-one (take-suc-set xs i x (omega (arith, r .full))) in
-        record { few = omega arith; full = length-set xs i x ∙ r .full; first = rw (m, r .first, many-more, drop-drop, e, p) }
-
-    pub read-all : {i : ℕ} → Read n at w xs i → n ≤ i → xs ≡ manyIn size g n (drop at w)
-    read-all {i} r h =
-        let e : i ≡ n = omega (arith, r .few) in
-        sym (take-all n xs (omega (arith, r .full))) ∙ (rw e at (r .first))
+  pub read-none : (n at : ℕ) (w : List ℕ) (xs : List A) → length xs ≡ n → Read n at w xs 0
+  read-none n at w xs l = record { few = omega arith; full = l; first = refl }
 
   -- an array whose every entry is the first thing
   pub read-first : (n at : ℕ) (w : List ℕ) (x : A) → x ≡ g (drop at w) → Read (suc n) at w (replicate (suc n) x) 1
   read-first n at w x e = record { few = omega arith; full = ap suc (length-replicate n x); first = rw e }
 
+module _ {A : Type 0} {size : ℕ} {g : List ℕ → A} {n at : ℕ} {w : List ℕ} {xs : List A} {i : ℕ} (r : Read size g n at w xs i) where
+  -- x is stored at i; k is the place that it is read from
+  pub read-more : i < n → (k : ℕ) (x : A) → k ≡ at + size * i → x ≡ g (drop k w) → Read size g n at w (set xs i x) (i + 1)
+  read-more h k x p e =
+      let m : take (i + 1) (set xs i x) ≡ take i xs ++ (x ∷ []) = rw add-one (take-suc-set xs i x (omega (arith, r .full))) in
+      record { few = omega arith; full = length-set xs i x ∙ r .full; first = rw (m, r .first, many-more, drop-drop, e, p) }
+
+  pub read-all : n ≤ i → xs ≡ manyIn size g n (drop at w)
+  read-all h =
+      let e : i ≡ n = omega (arith, r .few) in
+      sym (take-all n xs (omega (arith, r .full))) ∙ (rw e at (r .first))
+
+  -- the same where the things stand behind k words from a place on
+  pub read-behind : n ≤ i → (k place : ℕ) → at ≡ place + k → xs ≡ manyIn size g n (drop k (drop place w))
+  read-behind h k place e = rw (drop-drop, ← e) (read-all h)
+
 -- WRITING
 
-module _ {A : Type 0} (f : A → List ℕ) where
-  -- A loop that writes the words of the things xs over a buffer from the place `at` on: before the one at i, those of the first i are written. `out` is the
-  -- buffer then.
-  pub record Wrote (xs : List A) (at : ℕ) (buf : List ℕ) (i : ℕ) (out : List ℕ) : Type 0 where
-    pub few : i ≤ length xs
-    pub words : out ≡ over at (each f (take i xs)) buf
-
-  module _ (xs : List A) (at : ℕ) (buf : List ℕ) where
-    pub wrote-none : at ≤ length buf → Wrote xs at buf 0 buf
-    wrote-none h = record { few = omega arith; words = sym (over-nil at buf h) }
-
-    pub wrote-length : {i : ℕ} {out : List ℕ} → Wrote xs at buf i out → length out ≡ length buf
-    wrote-length r = rw (r .words) (over-length at _ buf)
-
-    pub wrote-all : {i : ℕ} {out : List ℕ} → Wrote xs at buf i out → length xs ≤ i → out ≡ over at (each f xs) buf
-    wrote-all {i} r h = rw (take-all i xs h) at (r .words)
-
-    -- where the buffer has room for all: room for the one at i, and one more is written; k is the place that it is written to
-    module _ (size : ℕ) (sized : Sizes f size xs) (room : at + size * length xs ≤ length buf)
-        {i : ℕ} {out : List ℕ} (r : Wrote xs at buf i out) (h : i < length xs) (k : ℕ) (place : k ≡ at + size * i) where
-      fits : k + size ≤ length buf
-      fits = omega (arith, mul-le-mul-left size h, mul-suc size i)
-
-      before : length (each f (take i xs)) ≡ size * i
-      before = rw (each-length f size (take i xs) (all-first (λ x. length (f x) ≡ size) i xs sized), length-take-le i xs (omega arith))
-
-      pub wrote-room : k + size ≤ length out
-      wrote-room = rw (wrote-length r) fits
-
-      pub wrote-more : (z : A) (out' : List ℕ) → out' ≡ over k (f (getD xs i z)) out → Wrote xs at buf (i + 1) out'
-      wrote-more z out' e =
-          let x = getD xs i z in
-          let ws = each f (take i xs) in
-          let here : k ≡ at + length ws = omega (arith, before) in
-          let l : length (f x) ≡ size = all-at (λ y. length (f y) ≡ size) z xs sized i h in
-          record { few = omega arith; words = rw (e, each-more f xs i z h, r .words, here) (over-over at ws (f x) buf (omega (arith, fits))) }
-
--- the same where words hs were written first: `out` is the buffer behind both
+-- words ws behind words hs that were written first: `out` is the buffer behind both
 pub behind : (at k : ℕ) (hs ws buf mid out : List ℕ) → mid ≡ over at hs buf → out ≡ over k ws mid → k ≡ at + length hs → k + length ws ≤ length buf
     → out ≡ over at (hs ++ ws) buf
 behind at k hs ws buf mid out p q e h = rw (q, p, e) (over-over at hs ws buf (omega arith))
+
+module _ {A : Type 0} (f : A → List ℕ) (size : ℕ) where
+  -- A loop that writes the words of the n things xs over a buffer from the place `at` on, where it has room for all: before the one at i, those of the first i
+  -- are written. `out` is the buffer then.
+  pub record Wrote (n at : ℕ) (buf : List ℕ) (xs : List A) (i : ℕ) (out : List ℕ) : Type 0 where
+    pub few : i ≤ n
+    pub full : length xs ≡ n
+    pub sized : Sizes f size xs
+    pub room : at + size * n ≤ length buf
+    pub words : out ≡ over at (each f (take i xs)) buf
+
+  pub wrote-none : (n at : ℕ) (buf : List ℕ) (xs : List A) → length xs ≡ n → Sizes f size xs → at + size * n ≤ length buf → Wrote n at buf xs 0 buf
+  wrote-none n at buf xs l s h = record { few = omega arith; full = l; sized = s; room = h; words = sym (over-nil at buf (omega arith)) }
+
+module _ {A : Type 0} {f : A → List ℕ} {size n at : ℕ} {buf : List ℕ} {xs : List A} {i : ℕ} {out : List ℕ} (r : Wrote f size n at buf xs i out) where
+  pub wrote-length : length out ≡ length buf
+  wrote-length = rw (r .words) (over-length at _ buf)
+
+  -- room for the one at i, and one more is written; k is the place that it is written to
+  module _ (h : i < n) (k : ℕ) (place : k ≡ at + size * i) where
+    fits : k + size ≤ length buf
+    fits = omega (arith, r .room, mul-le-mul-left size h, mul-suc size i)
+
+    before : length (each f (take i xs)) ≡ size * i
+    before = rw (each-length f size (take i xs) (all-first (λ x. length (f x) ≡ size) i xs (r .sized)), length-take-le i xs (omega (arith, r .full)))
+
+    pub wrote-room : k + size ≤ length out
+    wrote-room = rw wrote-length fits
+
+    pub wrote-more : (z : A) (out' : List ℕ) → out' ≡ over k (f (getD xs i z)) out → Wrote f size n at buf xs (i + 1) out'
+    wrote-more z out' e =
+        let x = getD xs i z in
+        let ws = each f (take i xs) in
+        let below : i < length xs = omega (arith, r .full) in
+        let here : k ≡ at + length ws = omega (arith, before) in
+        let l : length (f x) ≡ size = all-at (λ y. length (f y) ≡ size) z xs (r .sized) i below in
+        record {
+          few = omega arith;
+          full = r .full;
+          sized = r .sized;
+          room = r .room;
+          words = rw (e, each-more f xs i z below, r .words, here) (over-over at ws (f x) buf (omega (arith, fits)));
+        }
+
+  -- all, behind words hs that were written first from a place on
+  pub wrote-behind : n ≤ i → (place : ℕ) (hs first : List ℕ) → buf ≡ over place hs first → at ≡ place + length hs → out ≡ over place (hs ++ each f xs) first
+  wrote-behind h place hs first p e =
+      let all : out ≡ over at (each f xs) buf = rw (take-all i xs (omega (arith, r .full))) at (r .words) in
+      let l : length buf ≡ length first = rw p (over-length place hs first) in
+      let m : length (each f xs) ≡ size * n = rw (each-length f size xs (r .sized), r .full) in
+      behind place at hs (each f xs) first buf out p all e (omega (arith, r .room))
 
 -- words over all of a buffer
 pub over-all : (xs buf : List ℕ) → length xs ≡ length buf → over 0 xs buf ≡ xs

@@ -19,12 +19,13 @@ use Rattle.queue.specs.Calls.{insertOf, removeOf, clockOf, takeOf, pushBackOf}
 use Rattle.queue.specs.declared.Cell.{Cell}
 use Rattle.queue.specs.declared.Queue.{Queue}
 use Rattle.queue.specs.declared.Changed.{Changed}
+use Rattle.queue.specs.declared.Taken.{Taken}
 use Rattle.queue.proofs.SoundLaws.{sound-is, sound-full}
 use Rattle.queue.proofs.Refusals.{insert-accepted, remove-accepted, clock-accepted, take-accepted, push-back-accepted}
 use Rattle.queue.proofs.Keeps.{insert-sound, remove-sound, clock-sound, take-sound, push-back-sound}
 use Rattle.port.specs.Layout.{wordLimit, queueSize}
 use Rattle.port.specs.Words.{cellWord, queueWords}
-use Rattle.port.specs.Exports.{heldAfter, heldQueue}
+use Rattle.port.specs.Exports.{heldAfter}
 use Rattle.port.proofs.Many.{over-all}
 
 -- ACCEPTED OR REFUSED: x is the answer's refusal, r the definition's
@@ -58,37 +59,37 @@ queue-length q h =
 pub sound-few : (q : Queue) → soundb maxGap longest q ≡ true → q .len < wordLimit
 sound-few q s = omega (arith, sound-is maxGap longest q s .short)
 
--- a call that gives a sound queue q where it is accepted: x and p are the answer's refusal and queue
-module _ (r : Refusal) (q : Queue) (sound : r .number ≡ 0 → soundb maxGap longest q ≡ true) (x : Refusal) (p : Queue) (e : x ≡ r) (f : p ≡ q)
-    (accepted : x .number ≡ 0) where
-  is-sound : soundb maxGap longest q ≡ true
-  is-sound = sound (rw (← e) accepted)
+-- A CALL WHOSE QUEUE IS STORED: x and p are the refusal and the queue that it answered, r and q the definition's. Accepted, the queue's count fits into a word,
+-- and its words over the memory are what the memory then holds; refused, that is what it held.
+pub record Stores (r : Refusal) (q : Queue) (x : Refusal) (p : Queue) : Type 0 where
+  pub same : x ≡ r
+  pub few : x .number ≡ 0 → p .len < wordLimit
+  pub stored : x .number ≡ 0 → (w out : List ℕ) → length w ≡ queueSize → out ≡ over 0 (queueWords p) w → out ≡ heldAfter r (queueWords q) w
+  pub kept : (x .number ≡ 0 → ⊥) → (new old : List ℕ) → old ≡ heldAfter r new old
 
-  pub queue-few : p .len < wordLimit
-  queue-few = rw f (sound-few q is-sound)
+-- so it is where an accepted call gives a sound queue
+module _ (r : Refusal) (q : Queue) (sound : r .number ≡ 0 → soundb maxGap longest q ≡ true) (x : Refusal) (p : Queue) (e : x ≡ r) (f : p ≡ q) where
+  is-sound : x .number ≡ 0 → soundb maxGap longest q ≡ true
+  is-sound h = sound (rw (← e) h)
 
-  pub queue-stored : (w out : List ℕ) → length w ≡ queueSize → out ≡ over 0 (queueWords p) w → out ≡ heldAfter r (queueWords q) w
-  queue-stored w out l o =
-      let whole : length (queueWords q) ≡ length w = queue-length q (sound-full maxGap longest q (sound-is maxGap longest q is-sound)) ∙ sym l in
-      o ∙ rw f (over-all (queueWords q) w whole) ∙ sym (held-new x r e (queueWords q) w accepted)
+  pub stores : Stores r q x p
+  stores = record {
+    same = e;
+    few = λ h. rw f (sound-few q (is-sound h));
+    stored = λ h w out l o.
+        let whole : length (queueWords q) ≡ length w = queue-length q (sound-full maxGap longest q (sound-is maxGap longest q (is-sound h))) ∙ sym l in
+        o ∙ rw f (over-all (queueWords q) w whole) ∙ sym (held-new x r e (queueWords q) w h);
+    kept = λ h new old. sym (held-old x r e new old h);
+  }
 
--- the same of a call that answers with a refusal and a queue
+-- of a call that answers with a refusal and a queue, and of a take
 module _ (call : Changed) (sound : call .refusal .number ≡ 0 → soundb maxGap longest (call .queue) ≡ true) (answer : Changed) (e : answer ≡ call) where
-  refusal : answer .refusal ≡ call .refusal
-  refusal = ap (λ (c : Changed). c .refusal) e
+  pub changed-stores : Stores (call .refusal) (call .queue) (answer .refusal) (answer .queue)
+  changed-stores = stores _ _ sound _ _ (ap (λ (c : Changed). c .refusal) e) (ap (λ (c : Changed). c .queue) e)
 
-  queue : answer .queue ≡ call .queue
-  queue = ap (λ (c : Changed). c .queue) e
-
-  pub changed-few : answer .refusal .number ≡ 0 → answer .queue .len < wordLimit
-  changed-few = queue-few (call .refusal) (call .queue) sound (answer .refusal) (answer .queue) refusal queue
-
-  pub changed-stored : answer .refusal .number ≡ 0 → (w out : List ℕ) → length w ≡ queueSize → out ≡ over 0 (queueWords (answer .queue)) w
-      → (answer .refusal ≡ call .refusal) × (out ≡ heldQueue call w)
-  changed-stored h w out l o = (refusal, queue-stored (call .refusal) (call .queue) sound (answer .refusal) (answer .queue) refusal queue h w out l o)
-
-  pub changed-kept : (answer .refusal .number ≡ 0 → ⊥) → (w : List ℕ) → (answer .refusal ≡ call .refusal) × (w ≡ heldQueue call w)
-  changed-kept h w = (refusal, sym (held-old (answer .refusal) (call .refusal) refusal (queueWords (call .queue)) w h))
+module _ (call : Taken) (sound : call .refusal .number ≡ 0 → soundb maxGap longest (call .queue) ≡ true) (answer : Taken) (e : answer ≡ call) where
+  pub taken-stores : Stores (call .refusal) (call .queue) (answer .refusal) (answer .queue)
+  taken-stores = stores _ _ sound _ _ (ap (λ (c : Taken). c .refusal) e) (ap (λ (c : Taken). c .queue) e)
 
 -- an accepted call's queue is sound: the call before it was on a sound queue
 module _ (q : Queue) where

@@ -48,7 +48,7 @@ loop-again : tie.Need-loop-again Inv-loop μ-loop
 loop-again c =
     let a = c .before .before .before .before .args in
     let l = c .before .before .loop in
-    read-more loadSize loadIn entries _ _ _ (l .inv) (omega arith) (a .at + 1 + 2 * l .j) _ (omega arith) (c .load-in .ensures)
+    read-more (l .inv) (omega arith) (a .at + 1 + 2 * l .j) _ (omega arith) (c .load-in .ensures)
 
 add-queue-in : tie.Need-add-queue-in Inv-loop μ-loop
 add-queue-in c = omega arith
@@ -72,7 +72,7 @@ returns : tie.Need-returns Inv-loop μ-loop
 unfolding entryIn
 returns c =
     let l = c .before .before .before in
-    let loads = read-all loadSize loadIn entries _ _ _ (l .loop .inv) (omega arith) in
+    let loads = read-all (l .loop .inv) (omega arith) in
     rw (loads, c .before .queue-in .ensures) (simp (getD-drop, drop-drop, add-zero, add-assoc))
 
 pub entry-in-spec : {M : Type 1} → statement M

@@ -2,17 +2,17 @@
 -- is what is left of the cells.
 use mathlib.Core.Path.{_≡_, refl, sym, _∙_}
 use mathlib.Core.List.{List, [], _∷_}
-use Prim.Native.Nat.{ℕ, _+_, _-_, _*_, _≤_, _<_}
+use Prim.Native.Nat.{ℕ, _+_, _-_, _≤_}
 use native.Mathlib.Omega.{arith}
-use lib.ListN.{length, getD, set, length-set, length-map}
+use lib.ListN.{length, getD, length-set, length-map}
 use borrow.Author.Needs.{needs}
-use Rattle.small.proofs.Each.{Sizes, sizes-of, each-length}
+use Rattle.small.proofs.Each.{sizes-of}
 use Rattle.queue.specs.Limits.{cellCount}
 use Rattle.queue.specs.Row.{cell}
 use Rattle.queue.specs.declared.Cell.{Cell}
 use Rattle.field.proofs.Fields.{over-sets}
 use Rattle.port.specs.Words.{cellWord, queueWords}
-use Rattle.port.proofs.Many.{behind, Wrote, wrote-none, wrote-length, wrote-room, wrote-more, wrote-all}
+use Rattle.port.proofs.Many.{Wrote, wrote-none, wrote-length, wrote-room, wrote-more, wrote-behind}
 use Rattle.port.proofs.words.put_queue.Statement.{statement}
 use Rattle.port.proofs.words.put_queue.Tie as tie
 
@@ -21,20 +21,13 @@ abbrev one : Cell → List ℕ
 one d = cellWord d ∷ []
 
 abbrev Inv-loop : tie.InvT-loop
-Inv-loop w₀ at q i₀ w i = Wrote one (q .cells) (at + 1) w₀ i w
+Inv-loop w₀ at q i₀ w i = Wrote one 1 cellCount (at + 1) w₀ (q .cells) i w
 
 abbrev μ-loop : tie.MeasureT-loop
 μ-loop w₀ at q i₀ w i = cellCount - i
 
-module _ (s : tie.Start Inv-loop μ-loop) where
-  full : length (s .args .t3 .cells) ≡ cellCount
-  full = rw length-map at (s .good .1 .1 .0 .1 .1 .0 .1 .0 .1)
-
-  all-one : Sizes one 1 (s .args .t3 .cells)
-  all-one = sizes-of one 1 (λ d. refl) (s .args .t3 .cells)
-
-  fits : s .args .at + 1 + 1 * length (s .args .t3 .cells) ≤ length (set (s .args .w .now) (s .args .at) (s .args .t3 .len))
-  fits = rw length-set (omega (arith, full))
+full : (s : tie.Start Inv-loop μ-loop) → length (s .args .t3 .cells) ≡ cellCount
+full s = rw length-map at (s .good .1 .1 .0 .1 .1 .0 .1 .0 .1)
 
 module _ (c : tie.In-loop Inv-loop μ-loop) where
   abbrev start : tie.Start Inv-loop μ-loop
@@ -47,11 +40,8 @@ module _ (c : tie.In-loop Inv-loop μ-loop) where
   abbrev cell-at : Cell
   cell-at = getD (start .args .t3 .cells) (c .before .loop .i) (cell 0 0)
 
-  below : c .before .loop .i < length (start .args .t3 .cells)
-  below = omega (arith, full start)
-
   room : here + 1 ≤ length (c .before .loop .w)
-  room = wrote-room one _ _ _ 1 (all-one start) (fits start) (c .before .loop .inv) below here (omega arith)
+  room = wrote-room (c .before .loop .inv) (omega arith) here (omega arith)
 
 cast-w : tie.Need-cast-w Inv-loop μ-loop
 cast-w c = omega arith
@@ -63,7 +53,9 @@ slice-write-w : tie.Need-slice-write-w Inv-loop μ-loop
 slice-write-w c = omega arith
 
 loop-holds : tie.Need-loop-holds Inv-loop μ-loop
-loop-holds c = wrote-none one _ _ _ (rw length-set (omega arith))
+loop-holds c =
+    let s = c .before in
+    wrote-none one 1 cellCount _ _ _ (full s) (sizes-of one 1 (λ d. refl) (s .args .t3 .cells)) (rw length-set (omega arith))
 
 mul-c : tie.Need-mul-c Inv-loop μ-loop
 mul-c c = omega arith
@@ -96,20 +88,18 @@ loop-again : tie.Need-loop-again Inv-loop μ-loop
 loop-again c =
     let t = c .before .before in
     let e : cellWord (cell-at t) ≡ c .cell-word .result = sym (c .cell-word .ensures) in
-    wrote-more one _ _ _ 1 (all-one (start t)) (fits (start t)) (t .before .loop .inv) (below t) (here t) (omega arith) (cell 0 0) _
+    wrote-more (t .before .loop .inv) (omega arith) (here t) (omega arith) (cell 0 0) _
     (rw e (over-sets (here t) (c .cell-word .result ∷ []) (t .before .loop .w) (omega (arith, room t))))
 
 same-length : tie.Need-same-length Inv-loop μ-loop
-same-length c = wrote-length one _ _ _ (c .before .loop .inv) ∙ simp length-set
+same-length c = wrote-length (c .before .loop .inv) ∙ simp length-set
 
 returns : tie.Need-returns Inv-loop μ-loop
 unfolding queueWords
 returns c =
-    let s = c .before .before .before in
-    let count = over-sets (s .args .at) (s .args .t3 .len ∷ []) (s .args .w .now) (omega arith) in
-    let cells = wrote-all one _ _ _ (c .before .loop .inv) (omega (arith, full s)) in
-    behind (s .args .at) (s .args .at + 1) (s .args .t3 .len ∷ []) _ (s .args .w .now) _ _ count cells (omega arith)
-    (omega (arith, full s, each-length one 1 (s .args .t3 .cells) (all-one s)))
+    let a = c .before .before .before .args in
+    let count = over-sets (a .at) (a .t3 .len ∷ []) (a .w .now) (omega arith) in
+    wrote-behind (c .before .loop .inv) (omega arith) (a .at) (a .t3 .len ∷ []) (a .w .now) count (omega arith)
 
 pub put-queue-spec : {M : Type 1} → statement M
 put-queue-spec =

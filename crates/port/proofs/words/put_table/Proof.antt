@@ -2,24 +2,23 @@
 -- is left of the servers.
 use mathlib.Core.Path.{_∙_}
 use mathlib.Core.List.{[], _∷_}
-use Prim.Native.Nat.{ℕ, _+_, _-_, _*_, _≤_, _<_}
+use Prim.Native.Nat.{ℕ, _+_, _-_, _*_}
 use native.Mathlib.Omega.{arith}
-use lib.ListN.{length, set, length-set}
+use lib.ListN.{length-set}
 use Rattle.small.proofs.All.{all-at}
-use Rattle.small.proofs.Each.{Sizes, each-length}
 use Rattle.field.proofs.Fields.{over-sets}
 use Rattle.table.specs.Limits.{entries}
 use Rattle.table.proofs.Sizes.{pastServer}
 use Rattle.port.specs.Layout.{serverSize}
 use Rattle.port.specs.Words.{serverWords, tableWords}
-use Rattle.port.proofs.Many.{behind, Wrote, wrote-none, wrote-length, wrote-room, wrote-more, wrote-all}
+use Rattle.port.proofs.Many.{Wrote, wrote-none, wrote-length, wrote-room, wrote-more, wrote-behind}
 use Rattle.port.proofs.Sizing.{FullTable, table-full, servers-sizes}
 use Rattle.port.proofs.Ranges.{ServerRange, TableRange, table-range}
 use Rattle.port.proofs.words.put_table.Statement.{statement}
 use Rattle.port.proofs.words.put_table.Tie as tie
 
 abbrev Inv-loop : tie.InvT-loop
-Inv-loop w₀ at t i₀ w i = Wrote serverWords (t .servers) (at + 1) w₀ i w
+Inv-loop w₀ at t i₀ w i = Wrote serverWords serverSize entries (at + 1) w₀ (t .servers) i w
 
 abbrev μ-loop : tie.MeasureT-loop
 μ-loop w₀ at t i₀ w i = entries - i
@@ -31,25 +30,9 @@ module _ (s : tie.Start Inv-loop μ-loop) where
   range : TableRange (s .args .t3)
   range = table-range (s .args .t3) (s .pre .1)
 
-  sized : Sizes serverWords serverSize (s .args .t3 .servers)
-  sized = servers-sizes (s .args .t3 .servers) (full .servers)
-
-  fits : s .args .at + 1 + serverSize * length (s .args .t3 .servers) ≤ length (set (s .args .w .now) (s .args .at) (s .args .t3 .count))
-  fits = rw length-set (omega (arith, full .count))
-
-module _ (c : tie.In-loop Inv-loop μ-loop) where
-  abbrev start : tie.Start Inv-loop μ-loop
-  start = c .before .before .before
-
-  -- the place of the server at i
-  abbrev here : ℕ
-  here = start .args .at + 1 + 36 * c .before .loop .i
-
-  below : c .before .loop .i < length (start .args .t3 .servers)
-  below = omega (arith, full start .count)
-
-  room : here + serverSize ≤ length (c .before .loop .w)
-  room = wrote-room serverWords _ _ _ serverSize (sized start) (fits start) (c .before .loop .inv) below here (omega arith)
+-- the place of the server at i
+abbrev here : tie.In-loop Inv-loop μ-loop → ℕ
+here c = c .before .before .before .args .at + 1 + 36 * c .before .loop .i
 
 cast-w : tie.Need-cast-w Inv-loop μ-loop
 cast-w c = omega (arith, range (c .before) .count)
@@ -61,7 +44,9 @@ slice-write-w : tie.Need-slice-write-w Inv-loop μ-loop
 slice-write-w c = omega arith
 
 loop-holds : tie.Need-loop-holds Inv-loop μ-loop
-loop-holds c = wrote-none serverWords _ _ _ (rw length-set (omega arith))
+loop-holds c =
+    let s = c .before in
+    wrote-none serverWords serverSize entries _ _ _ (full s .count) (servers-sizes (s .args .t3 .servers) (full s .servers)) (rw length-set (omega arith))
 
 add-put-server : tie.Need-add-put-server Inv-loop μ-loop
 add-put-server c = omega arith
@@ -81,8 +66,9 @@ element-copy-out-put-server c = omega arith
 put-server-requires : tie.Need-put-server-requires Inv-loop μ-loop
 put-server-requires c κs =
     let t = c .before .before in
-    let few = all-at ServerRange pastServer (start t .args .t3 .servers) (range (start t) .servers) (t .before .loop .i) (below t) .count in
-    (room t, omega (arith, few))
+    let s = t .before .before .before in
+    let few = all-at ServerRange pastServer (s .args .t3 .servers) (range s .servers) (t .before .loop .i) (omega (arith, full s .count)) .count in
+    (wrote-room (t .before .loop .inv) (omega arith) (here t) (omega arith), omega (arith, few))
 
 add-i : tie.Need-add-i Inv-loop μ-loop
 add-i c = omega arith
@@ -93,21 +79,17 @@ loop-less c = omega arith
 loop-again : tie.Need-loop-again Inv-loop μ-loop
 loop-again c =
     let t = c .before .before .before .before .before in
-    wrote-more serverWords _ _ _ serverSize (sized (start t)) (fits (start t)) (t .before .loop .inv) (below t) (here t) (omega arith) pastServer _
-    (c .before .before .put-server .ensures)
+    wrote-more (t .before .loop .inv) (omega arith) (here t) (omega arith) pastServer _ (c .before .before .put-server .ensures)
 
 same-length : tie.Need-same-length Inv-loop μ-loop
-same-length c = wrote-length serverWords _ _ _ (c .before .loop .inv) ∙ simp length-set
+same-length c = wrote-length (c .before .loop .inv) ∙ simp length-set
 
 returns : tie.Need-returns Inv-loop μ-loop
 unfolding tableWords
 returns c =
-    let s = c .before .before .before in
-    let a = s .args in
-    let t = a .t3 in
-    let words = wrote-all serverWords _ _ _ (c .before .loop .inv) (omega (arith, full s .count)) in
-    behind (a .at) (a .at + 1) (t .count ∷ []) _ (a .w .now) _ _ (over-sets (a .at) (t .count ∷ []) (a .w .now) (omega arith)) words
-    (omega arith) (omega (arith, full s .count, each-length serverWords serverSize (t .servers) (sized s)))
+    let a = c .before .before .before .args in
+    let count = over-sets (a .at) (a .t3 .count ∷ []) (a .w .now) (omega arith) in
+    wrote-behind (c .before .loop .inv) (omega arith) (a .at) (a .t3 .count ∷ []) (a .w .now) count (omega arith)
 
 pub put-table-spec : {M : Type 1} → statement M
 put-table-spec =

@@ -1,16 +1,15 @@
 -- `port::words::queue_in` meets its contract. The loop's invariant: the first i cells are read (`Read`, proofs/Many.antt). The measure is what is left of
 -- the cells.
-use mathlib.Core.Path.{_≡_, sym, ap, _∙_}
+use mathlib.Core.Path.{refl}
 use Prim.Native.Nat.{_+_, _-_}
 use native.Mathlib.Nat.{add-zero}
 use native.Mathlib.Omega.{arith}
-use lib.ListN.{drop}
-use lib.Seq.{getD-drop, drop-drop}
+use lib.Seq.{getD-drop}
 use borrow.Author.Needs.{needs}
 use Rattle.queue.specs.Limits.{cellCount}
 use Rattle.queue.specs.Row.{queueOf}
-use Rattle.port.specs.Words.{word, manyIn, cellIn, queueIn}
-use Rattle.port.proofs.Many.{word-here, Read, read-none, read-more, read-all}
+use Rattle.port.specs.Words.{word, cellIn, queueIn}
+use Rattle.port.proofs.Many.{word-here, Read, read-none, read-more, read-behind}
 use Rattle.port.proofs.words.queue_in.Statement.{statement}
 use Rattle.port.proofs.words.queue_in.Tie as tie
 
@@ -58,7 +57,7 @@ loop-again : tie.Need-loop-again Inv-loop μ-loop
 loop-again c =
     let a = c .before .before .before .before .before .before .args in
     let l = c .before .before .before .loop in
-    read-more 1 _ cellCount _ _ _ (l .inv) (omega arith) (a .at + 1 + l .i) _ (omega arith) (rw (getD-drop, add-zero) (c .cell-in .ensures))
+    read-more (l .inv) (omega arith) (a .at + 1 + l .i) _ (omega arith) (rw (getD-drop, add-zero) (c .cell-in .ensures))
 
 mul-q : tie.Need-mul-q Inv-loop μ-loop
 mul-q c = omega arith
@@ -73,9 +72,8 @@ returns : tie.Need-returns Inv-loop μ-loop
 unfolding queueIn
 returns c =
     let a = c .before .before .before .before .before .args in
-    let cells = read-all 1 (λ v. cellIn (word 0 v)) cellCount _ _ _ (c .before .before .loop .inv) (omega arith) in
-    let behind : drop (a .at + 1) (a .w .now) ≡ drop 1 (drop (a .at) (a .w .now)) = sym (drop-drop 1 (a .at) (a .w .now)) in
-    λ i. record { cells = (cells ∙ ap (manyIn 1 (λ v. cellIn (word 0 v)) cellCount) behind) i; len = word-here (a .at) (a .w .now) i }
+    let l = c .before .before .loop in
+    λ i. record { cells = read-behind (l .inv) (omega arith) 1 (a .at) refl i; len = word-here (a .at) (a .w .now) i }
 
 pub queue-in-spec : {M : Type 1} → statement M
 queue-in-spec =

@@ -2,13 +2,12 @@
 use mathlib.Core.Path.{refl, sym, ap, _∙_}
 use Prim.Native.Nat.{_+_, _-_, _*_}
 use native.Mathlib.Omega.{arith}
-use lib.Seq.{drop-drop}
 use borrow.Author.Needs.{needs}
 use Rattle.table.specs.Limits.{entries}
 use Rattle.table.specs.Table.{ticks, served}
 use Rattle.port.specs.Layout.{taskSize}
-use Rattle.port.specs.Words.{manyIn, taskIn, kindIn, serverIn}
-use Rattle.port.proofs.Many.{word-at, word-here, Read, read-none, read-more, read-all}
+use Rattle.port.specs.Words.{taskIn, kindIn, serverIn}
+use Rattle.port.proofs.Many.{word-at, word-here, Read, read-none, read-more, read-behind}
 use Rattle.port.proofs.words.server_in.Statement.{statement}
 use Rattle.port.proofs.words.server_in.Tie as tie
 
@@ -52,7 +51,7 @@ loop-again : tie.Need-loop-again Inv-loop μ-loop
 loop-again c =
     let a = c .before .before .before .before .before .args in
     let l = c .before .before .loop in
-    read-more taskSize taskIn entries _ _ _ (l .inv) (omega arith) (a .at + 4 + 4 * l .j) _ (omega arith) (c .task-in .ensures)
+    read-more (l .inv) (omega arith) (a .at + 4 + 4 * l .j) _ (omega arith) (c .task-in .ensures)
 
 add-t14 : tie.Need-add-t14 Inv-loop μ-loop
 add-t14 c = omega arith
@@ -98,9 +97,8 @@ unfolding serverIn
 returns c =
     let l = c .before .before .before .before .before .before in
     let a = l .before .before .before .args in
-    let tasks = read-all taskSize taskIn entries _ _ _ (l .loop .inv) (omega arith) in
     λ i. record {
-      tasks = (tasks ∙ ap (manyIn taskSize taskIn entries) (sym (drop-drop 4 (a .at) (a .w .now)))) i;
+      tasks = read-behind (l .loop .inv) (omega arith) 4 (a .at) refl i;
       count = sym (word-at 1 (a .at) (a .w .now)) i;
       kind = (c .before .before .kind-in .ensures ∙ ap kindIn (word-here (a .at) (a .w .now))) i;
       period = ticks (sym (word-at 2 (a .at) (a .w .now)) i);

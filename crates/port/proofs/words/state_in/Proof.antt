@@ -57,13 +57,13 @@ loop-less c = omega arith
 loop-again : tie.Need-loop-again Inv-loop μ-loop
 loop-again c =
     let l = c .before .before .before .loop in
-    read-more entrySize entryIn entries _ _ _ (l .inv) (omega arith) (tableSize + queueSize + 50 * l .i) _ (omega arith) (c .entry-in2 .ensures)
+    read-more (l .inv) (omega arith) (tableSize + queueSize + 50 * l .i) _ (omega arith) (c .entry-in2 .ensures)
 
 returns : tie.Need-returns Inv-loop μ-loop
 unfolding stateIn
 returns c =
     let s = c .before .before .before .before in
-    let all = read-all entrySize entryIn entries _ _ _ (c .before .loop .inv) (omega arith) in
+    let all = read-all (c .before .loop .inv) (omega arith) in
     λ i. record { entries = all i; table = s .before .before .table-in .ensures i; refills = s .queue-in .ensures i }
 
 pub state-in-spec : {M : Type 1} → statement M

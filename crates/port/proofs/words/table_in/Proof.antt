@@ -1,15 +1,14 @@
 -- `words::table_in` meets its contract. The loop's invariant: the count and the first i servers are read (`Read`, proofs/Many.antt). The measure is what is
 -- left of the servers.
-use mathlib.Core.Path.{_≡_, refl, sym, ap, _∙_}
+use mathlib.Core.Path.{_≡_, refl, _∙_}
 use Prim.Native.Nat.{_+_, _-_, _*_}
 use native.Mathlib.Omega.{arith}
 use lib.ListN.{getD}
-use lib.Seq.{drop-drop}
 use borrow.Author.Needs.{needs}
 use Rattle.table.specs.Limits.{entries}
 use Rattle.port.specs.Layout.{serverSize}
-use Rattle.port.specs.Words.{manyIn, serverIn, tableIn}
-use Rattle.port.proofs.Many.{word-here, Read, read-none, read-more, read-all}
+use Rattle.port.specs.Words.{serverIn, tableIn}
+use Rattle.port.proofs.Many.{word-here, Read, read-none, read-more, read-behind}
 use Rattle.port.proofs.words.table_in.Statement.{statement}
 use Rattle.port.proofs.words.table_in.Tie as tie
 
@@ -62,18 +61,14 @@ loop-again : tie.Need-loop-again Inv-loop μ-loop
 loop-again c =
     let a = c .before .before .before .before .before .before .args in
     let l = c .before .before .loop in
-    (l .inv .0, read-more serverSize serverIn entries _ _ _ (l .inv .1) (omega arith) (a .at + 1 + 36 * l .i) _ (omega arith) (c .server-in .ensures))
+    (l .inv .0, read-more (l .inv .1) (omega arith) (a .at + 1 + 36 * l .i) _ (omega arith) (c .server-in .ensures))
 
 returns : tie.Need-returns Inv-loop μ-loop
 unfolding tableIn
 returns c =
     let l = c .before .loop in
     let a = c .before .before .before .before .before .args in
-    let servers = read-all serverSize serverIn entries _ _ _ (l .inv .1) (omega arith) in
-    λ i. record {
-      servers = (servers ∙ ap (manyIn serverSize serverIn entries) (sym (drop-drop 1 (a .at) (a .w .now)))) i;
-      count = (l .inv .0 ∙ word-here (a .at) (a .w .now)) i;
-    }
+    λ i. record { servers = read-behind (l .inv .1) (omega arith) 1 (a .at) refl i; count = (l .inv .0 ∙ word-here (a .at) (a .w .now)) i }
 
 pub table-in-spec : {M : Type 1} → statement M
 table-in-spec =

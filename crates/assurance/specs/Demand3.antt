@@ -38,8 +38,8 @@ sure t i = min (budgetIn t i) (periodIn t i - mostHeld t i)
 unfoldable pub periodTicks : Table → List Call → ℕ → ℕ → List Seen
 periodTicks t cs i k = take (periodIn t i) (drop (k * periodIn t i) (historyOf t cs))
 
--- "at the end of the tick before the period (in the fresh state, for a period that begins at tick 0) and at the end of each of its ticks but the last" (document
--- 02, #101)
+-- "at the end of the tick before the period (in the fresh state, for a period that begins at tick 0) and at the end of each of its ticks but the last"
+-- (document 02, #101)
 unfoldable pub periodEnds : Table → List Call → ℕ → ℕ → List State
 periodEnds t cs i k =
     let s = freshOf t .state in

@@ -1,5 +1,5 @@
--- HISTORIES: calls in a row from some state, and the ticks that are seen of them. Whatever is said "over any calls" is said of these. What is quoted is document
--- 01's, document 02's where it is named, or the demand's own words.
+-- HISTORIES: calls in a row from some state, and the ticks that are seen of them. Whatever is said "over any calls" is said of these. What is quoted is
+-- document 01's, document 02's where it is named, or the demand's own words.
 use mathlib.Core.List.{List, [], _∷_, _++_, map}
 use Prim.Native.Nat.{ℕ, zero, suc, _+_}
 use lib.Dec.{eqb}

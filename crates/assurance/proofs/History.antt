@@ -27,7 +27,8 @@ use Rattle.scheduler.specs.declared.Choice.{Choice}
 use Rattle.scheduler.specs.declared.Choice.the-variants.{Idle}
 use Rattle.scheduler.proofs.Keeps.{tick-sound, arrive-sound, fresh-sound}
 use Rattle.scheduler.proofs.TickSound.{tick-accepts}
-use Rattle.scheduler.proofs.KeptSizes.{tick-sized, arrive-sized, fresh-sized}
+use Rattle.scheduler.proofs.FreshSizes.{fresh-sized}
+use Rattle.scheduler.proofs.KeptSizes.{tick-sized, arrive-sized}
 use Rattle.scheduler.proofs.Laws.{tick-spent, tick-filled, arrive-budget, arrive-refills, arrive-table, arrive-pending, tick-table, fresh-made, fresh-budget, fresh-refill, chosen-first}
 use Rattle.assurance.specs.History.{Call, tick, run, arrival, Seen, ticksOf, ticksAsked, tickEnd, endBefore}
 use Rattle.table.specs.Table.{periodIn}

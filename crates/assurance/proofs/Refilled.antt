@@ -17,17 +17,18 @@ use Rattle.table.specs.Limits.{mostWork}
 use Rattle.table.specs.Table.{zeroServer}
 use Rattle.table.specs.declared.Table.{Table}
 use Rattle.table.proofs.Soundness.{table-sound}
-use Rattle.scheduler.specs.State.{serverAt}
+use Rattle.scheduler.specs.State.{serverAt, fullAt}
 use Rattle.scheduler.specs.Sound.{stateb}
 use Rattle.scheduler.specs.Choice.{choiceOf, servesb}
 use Rattle.scheduler.specs.Arrive.{arriveOf}
-use Rattle.scheduler.specs.Tick.{fullAt, tickOf}
+use Rattle.scheduler.specs.Tick.{tickOf}
 use Rattle.scheduler.specs.Meaning.{SizedState, readyAt, budgetAt, lapsesAt, refillAway, Highest, Chosen}
 use Rattle.scheduler.specs.declared.State.{State}
 use Rattle.scheduler.specs.declared.Choice.{Choice}
 use Rattle.scheduler.specs.declared.Choice.the-variants.{Idle, Burning, Running}
 use Rattle.scheduler.proofs.Keeps.{ticked-sound, arrive-sound}
-use Rattle.scheduler.proofs.TickSound.{tick-accepts, state-parts}
+use Rattle.scheduler.proofs.Stated.{state-parts}
+use Rattle.scheduler.proofs.TickSound.{tick-accepts}
 use Rattle.scheduler.proofs.KeptSizes.{tick-sized, arrive-sized}
 use Rattle.scheduler.proofs.Laws.{tick-filled, tick-table, not-polling, working, arrive-budget, chosen-first}
 use Rattle.assurance.specs.History.{arrived}

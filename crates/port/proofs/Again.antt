@@ -34,7 +34,8 @@ use Rattle.scheduler.proofs.Unchanged.{tick-unchanged, arrive-unchanged}
 use Rattle.scheduler.proofs.Keeps.{tick-sound-accepted}
 use Rattle.scheduler.proofs.TickSound.{tick-accepts}
 use Rattle.scheduler.proofs.Laws.{fresh-made}
-use Rattle.scheduler.proofs.KeptSizes.{tick-sized, arrive-sized, fresh-sized}
+use Rattle.scheduler.proofs.FreshSizes.{fresh-sized}
+use Rattle.scheduler.proofs.KeptSizes.{tick-sized, arrive-sized}
 use Rattle.port.specs.Words.{word, manyIn, cellIn, queueIn, queueWords, tableIn, stateIn, tableWords, stateWords, ByteEvent}
 use Rattle.port.specs.Exports.{heldAfter, heldQueue, heldRest, heldState, heldArrived}
 use Rattle.port.proofs.Storing.{held-again, insert-gives, remove-gives, clock-gives, take-gives, push-back-gives}

@@ -3,7 +3,7 @@
 use mathlib.Core.Path.{_≡_, refl, sym, ap, _∙_}
 use mathlib.Core.Bool.{Bool, true, false, not}
 use mathlib.Core.List.{List, [], _∷_}
-use Prim.Native.Nat.{ℕ, suc, _+_, _-_, _≤_, _<_}
+use Prim.Native.Nat.{ℕ, suc, _+_, _-_, _≤_}
 use native.Mathlib.Omega.{arith}
 use lib.Dec.{leb, eqb}
 use lib.ListN.{length, getD}
@@ -25,6 +25,7 @@ use Rattle.queue.proofs.DueTimes.{there, away, clock-others, take-first, take-o
 use Rattle.queue.proofs.Room.{room-for-eight}
 use Rattle.table.specs.Limits.{entries}
 use Rattle.scheduler.specs.Tick.{clocked, dueIds, dueIn, again, roomyb, turnOf, roomOf}
+use Rattle.scheduler.proofs.Delays.{Delayed}
 use Rattle.scheduler.proofs.HeldEach.{HeldEach, held-reached, held-few, held-rests}
 
 -- THE DUE IDS
@@ -258,14 +259,7 @@ held-due reach q h j =
     go false k n = rw (n .0, k)
 
 module _ (delay : ℕ → ℕ) (reach : List ℕ) where
-  -- where an id has a reach, it is a place below 8, and its delay is 1 to its reach
-  pub record Delayed (j : ℕ) : Type 0 where
-    pub place : j < entries
-    pub low : 1 ≤ delay j
-    pub high : delay j ≤ getD reach j 0
-    pub near : getD reach j 0 ≤ longest
-
-  module _ (q : Queue) (h : HeldEach reach q) (each : (j : ℕ) → 1 ≤ getD reach j 0 → Delayed j) where
+  module _ (q : Queue) (h : HeldEach reach q) (each : (j : ℕ) → 1 ≤ getD reach j 0 → Delayed delay reach j) where
     held-fit : Fit delay q
     held-fit =
         record {

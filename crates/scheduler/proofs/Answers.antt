@@ -1,12 +1,12 @@
 -- Laws of the answers of the calls, for any refusal r: what is given where nothing is refused. Unchanged has what is given where something is. Assumes nothing.
-use mathlib.Core.Path.{_≡_, refl, sym, _∙_}
+use mathlib.Core.Path.{_≡_, refl, sym, ap, _∙_}
 use mathlib.Core.Bool.{Bool, true, false}
 use mathlib.Core.List.{[]}
 use mathlib.Core.Logic.{_≢_}
 use Prim.Native.Nat.{ℕ}
 use lib.Dec.{eqb}
 use lib.ListN.{getD}
-use borrow.Author.Tests.{eqb-false}
+use borrow.Author.Tests.{eqb-true, eqb-false}
 use Rattle.small.specs.Small.{pick}
 use Rattle.refusal.specs.Refusal.{none, firstOf}
 use Rattle.refusal.specs.declared.Refusal.{Refusal}
@@ -44,6 +44,22 @@ module _ {A : Type 0} (number : A → ℕ) (r : Refusal) (next kept : A) where
       go : (b : Bool) → eqb (r .number) 0 ≡ b → number (pick b next kept) ≡ 0 → pick b next kept ≡ next
       go true p h = refl
       go false p h = absurd (eqb-false (r .number) 0 p (sym e ∙ h))
+
+-- What an answer says of its refusal: the number and the place are those of the first test that holds
+module _ {A : Type 0} (refusal : A → Refusal) (r : Refusal) (next kept : A) (accepted : refusal next ≡ none) (refused : refusal kept ≡ r) where
+  pub given-number : refusal (pick (eqb (r .number) 0) next kept) .number ≡ r .number
+  given-number = go (eqb (r .number) 0) refl
+    where
+      go : (b : Bool) → eqb (r .number) 0 ≡ b → refusal (pick b next kept) .number ≡ r .number
+      go true e = ap (λ (x : Refusal). x .number) accepted ∙ sym (eqb-true (r .number) 0 e)
+      go false e = ap (λ (x : Refusal). x .number) refused
+
+  pub given-place : r .place ≡ 0 → refusal (pick (eqb (r .number) 0) next kept) .place ≡ 0
+  given-place p = go (eqb (r .number) 0)
+    where
+      go : (b : Bool) → refusal (pick b next kept) .place ≡ 0
+      go true = ap (λ (x : Refusal). x .place) accepted
+      go false = ap (λ (x : Refusal). x .place) refused ∙ p
 
 -- TICK: the four steps
 

@@ -16,16 +16,16 @@ use Rattle.queue.specs.Row.{eventsOf}
 use Rattle.queue.specs.Steps.{firstCell, dueStep, tickStep}
 use Rattle.table.specs.Limits.{entries, mostWork}
 use Rattle.table.specs.declared.Server.{Server}
-use Rattle.scheduler.specs.State.{mostPending, taskAt}
+use Rattle.scheduler.specs.State.{mostPending, taskAt, taskDelay}
 use Rattle.scheduler.specs.Sound.{taskReaches, entryb}
 use Rattle.scheduler.specs.Arrive.{fitsb, loadAfter, withArrival}
-use Rattle.scheduler.specs.Tick.{dueIds, taskDelay, arrivedLoads, served4}
+use Rattle.scheduler.specs.Tick.{dueIds, arrivedLoads, served4}
 use Rattle.scheduler.specs.Moves.{pendingBelow, tabledb, Clocked, Arriving, oneArrival, dueTurn, withQueue, servedTurn}
 use Rattle.scheduler.specs.declared.Load.{Load}
 use Rattle.scheduler.specs.declared.Entry.{Entry}
 use Rattle.scheduler.proofs.Stated.{EntryStated, entry-stated, ServerStated, loads-below, work-below}
 use Rattle.scheduler.proofs.Turns.{Turned, turned, came-more, none-due, due-few, due-in, turn-is, ticked-turning}
-use Rattle.scheduler.proofs.TickSound.{task-delayed}
+use Rattle.scheduler.proofs.Delays.{task-delayed}
 
 -- A SERVER OF A SOUND TABLE, in use or not
 

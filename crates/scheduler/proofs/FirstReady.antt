@@ -24,7 +24,7 @@ use Rattle.scheduler.specs.declared.Entry.{Entry}
 use Rattle.scheduler.specs.declared.State.{State}
 use Rattle.scheduler.proofs.Stated.{Stated, stated, entry-stated}
 use Rattle.scheduler.proofs.Choosing.{FirstOf, first-ready}
-use Rattle.scheduler.proofs.TickSound.{table-used}
+use Rattle.scheduler.proofs.Delays.{table-used}
 
 -- a server that wants the tick with no work pending is idling
 pub wants-idling : (kind : ℕ) (e : Entry) → somePending (e .loads) ≡ false → wantsb kind e ≡ true → kind ≡ idlingKind

@@ -40,8 +40,7 @@ use Rattle.scheduler.specs.declared.Entry.{Entry}
 use Rattle.scheduler.proofs.Stated.{entry-stated, ServerStated, zero-stated, server-reach, task-reach}
 use Rattle.scheduler.proofs.Lapsing.{lapsed-keeps, lapsed-sound, lapsed-spent}
 use Rattle.scheduler.proofs.HeldEach.{HeldEach, held-each, few-ids}
-use Rattle.scheduler.proofs.AgainLaws.{Delayed}
-use Rattle.scheduler.proofs.TickSound.{task-delayed, Every}
+use Rattle.scheduler.proofs.Delays.{Delayed, task-delayed, Every}
 
 -- EVENTS PUT IN BY TABLE ORDER
 

@@ -11,23 +11,24 @@ use Rattle.table.specs.Limits.{mostWork, entries}
 use Rattle.table.specs.Table.{zeroServer}
 use Rattle.table.specs.Sound.{tableb}
 use Rattle.table.specs.declared.Table.{Table}
-use Rattle.scheduler.specs.State.{serverAt, taskAt}
+use Rattle.scheduler.specs.State.{serverAt, taskAt, periodAt}
 use Rattle.scheduler.specs.Sound.{serverReaches, entryb, spentb, stateb}
 use Rattle.scheduler.specs.Arrive.{withArrival, withLoads, arrivedState, arriveOf}
 use Rattle.scheduler.specs.Moves.{handledEntries}
-use Rattle.scheduler.specs.Tick.{periodAt, refillsTurn, stateAfter, tickOf}
+use Rattle.scheduler.specs.Tick.{refillsTurn, stateAfter, tickOf}
 use Rattle.scheduler.specs.Run.{stateAfterTicks, ticksIn, runOf}
 use Rattle.scheduler.specs.declared.Entry.{Entry}
 use Rattle.scheduler.specs.declared.State.{State}
 use Rattle.scheduler.specs.Fresh.{serverAway, freshQueue, freshState}
-use Rattle.scheduler.proofs.Stated.{paired-one}
-use Rattle.scheduler.proofs.Lapsing.{entries-lapsed, all-spent, arrived-spent}
+use Rattle.scheduler.proofs.Stated.{paired-one, state-parts, Parts}
+use Rattle.scheduler.proofs.LapsedEntries.{entries-lapsed, all-spent, arrived-spent}
 use Rattle.scheduler.proofs.Refusals.{tick-30, tick-accepted, arrive-accepted, run-accepted}
 use Rattle.scheduler.proofs.Answers.{run-done}
 use Rattle.scheduler.proofs.Reached.{arrive-either}
 use Rattle.scheduler.proofs.HeldEach.{held-each}
 use Rattle.scheduler.proofs.AgainLaws.{held-again}
-use Rattle.scheduler.proofs.TickSound.{state-parts, table-every, server-delayed, Parts, entries-served, load-sound, refills-each, tick-room, before-sound, tick-accepts}
+use Rattle.scheduler.proofs.Delays.{table-every, server-delayed}
+use Rattle.scheduler.proofs.TickSound.{entries-served, load-sound, refills-each, tick-room, before-sound, tick-accepts}
 use Rattle.scheduler.proofs.FreshSound.{fresh-held, entries-sound, fresh-spent, refill-near}
 
 -- THE FRESH STATE OF A SOUND TABLE IS SOUND

@@ -24,12 +24,12 @@ use Rattle.table.specs.Limits.{entries, mostWork}
 use Rattle.table.specs.Table.{zeroServer, periodOf}
 use Rattle.table.specs.Sound.{tableb}
 use Rattle.table.specs.declared.Table.{Table}
-use Rattle.scheduler.specs.State.{zeroEntry, serverAt, entryAt, taskAt, zeroLoad, mostPending, load, loadAt}
+use Rattle.scheduler.specs.State.{zeroEntry, serverAt, entryAt, taskAt, zeroLoad, mostPending, load, loadAt, periodAt, fullAt}
 use Rattle.scheduler.specs.Sound.{serverReaches, stateb, taskReaches}
 use Rattle.scheduler.specs.Choice.{somePending, wantsb, chosenOf, choiceOf, servesb, firstPending, choiceNumber}
 use Rattle.scheduler.specs.Arrive.{withArrival, withLoads, arriveOf, arrivalBy, arrivalNumber, lostAfter, loadAfter}
 use Rattle.scheduler.specs.Moves.{chargedEntries, handledEntries}
-use Rattle.scheduler.specs.Tick.{charge, dueIn, periodAt, fullAt, served4, stateAfter, tickOf, lessWork, clocked, handledOf}
+use Rattle.scheduler.specs.Tick.{charge, dueIn, served4, stateAfter, tickOf, lessWork, clocked, handledOf}
 use Rattle.scheduler.specs.Meaning.{SizedState, pendingAt, budgetAt, lapsesAt, refillAway, SoundState, Spent, Filled, readyAt, Chosen, arrivalThere, arrivalAway, runsb, dueNext}
 use Rattle.scheduler.specs.Meaning.{allDueNext}
 use Rattle.scheduler.specs.declared.Entry.{Entry}
@@ -38,11 +38,14 @@ use Rattle.scheduler.specs.declared.Load.{Load}
 use Rattle.scheduler.specs.declared.Choice.the-variants.{Idle, Burning, Running}
 use Rattle.scheduler.specs.Fresh.{taskAway, serverAway, freshLoad, filledEntry, freshEntry, freshState, madeWith, freshOf}
 use Rattle.scheduler.proofs.Soundness.{state-sound}
-use Rattle.scheduler.proofs.Lapsing.{lapsed-budget, lapsed-at, pending-kept, lapsed-keeps}
+use Rattle.scheduler.proofs.LapsedEntries.{lapsed-at, pending-kept}
+use Rattle.scheduler.proofs.Lapsing.{lapsed-budget, lapsed-keeps}
 use Rattle.scheduler.proofs.Choosing.{some-none, first-pending, some-first}
 use Rattle.scheduler.proofs.Reached.{arrive-either}
 use Rattle.scheduler.proofs.AgainLaws.{inb, held-due, held-moved}
-use Rattle.scheduler.proofs.TickSound.{state-parts, server-delayed, refills-each, tick-accepts, table-every}
+use Rattle.scheduler.proofs.Delays.{server-delayed, table-every}
+use Rattle.scheduler.proofs.Stated.{state-parts}
+use Rattle.scheduler.proofs.TickSound.{refills-each, tick-accepts}
 use Rattle.scheduler.proofs.Answers.{arrive-done, fresh-done}
 use Rattle.scheduler.proofs.Refusals.{fresh-accepted}
 use Rattle.scheduler.proofs.Budgets.{each-budget, refilled-budget, charged-budget}

@@ -8,7 +8,9 @@ pub mod Laws
 pub mod Points
 -- WHAT ONLY SERVES
 pub mod Stated
+pub mod Delays
 pub mod Lapsing
+pub mod LapsedEntries
 pub mod Sizes
 pub mod Choosing
 pub mod Answers
@@ -19,6 +21,7 @@ pub mod Turns
 pub mod TickSound
 pub mod FreshSound
 pub mod FirstReady
+pub mod FreshSizes
 pub mod KeptSizes
 pub mod Budgets
 pub mod TaskLaws

@@ -16,16 +16,17 @@ use Rattle.table.specs.Limits.{entries}
 use Rattle.table.specs.Table.{zeroServer, periodIn}
 use Rattle.table.specs.declared.Server.{Server}
 use Rattle.table.specs.declared.Table.{Table}
-use Rattle.scheduler.specs.State.{withBudget}
+use Rattle.scheduler.specs.State.{withBudget, periodAt, fullAt}
 use Rattle.scheduler.specs.Sound.{serverReaches, stateb}
-use Rattle.scheduler.specs.Tick.{dueIds, dueIn, refilled, periodAt, fullAt, refillsTurn}
+use Rattle.scheduler.specs.Tick.{dueIds, dueIn, refilled, refillsTurn}
 use Rattle.scheduler.specs.Moves.{requeued, Turning, chargedEntries}
 use Rattle.scheduler.specs.declared.Entry.{Entry}
 use Rattle.scheduler.specs.declared.State.{State}
 use Rattle.scheduler.proofs.Sizes.{pastEntry}
 use Rattle.table.proofs.Sizes.{pastServer}
 use Rattle.scheduler.proofs.Turns.{Turned, turned, cameTo, came-more, none-due, due-few, due-in, turn-is, ticked-turning}
-use Rattle.scheduler.proofs.TickSound.{state-parts, server-delayed}
+use Rattle.scheduler.proofs.Delays.{server-delayed}
+use Rattle.scheduler.proofs.Stated.{state-parts}
 
 -- C of the server at a place
 abbrev fullIn : Table → ℕ → ℕ

@@ -1,15 +1,13 @@
 -- "Given exactly when": each refusal number of each call of the scheduler, and number 0 where a call is not refused. Assumes nothing.
-use mathlib.Core.Path.{_≡_, refl, sym, ap, _∙_}
-use mathlib.Core.Bool.{Bool, true, false, not}
+use mathlib.Core.Path.{_≡_, refl, ap}
+use mathlib.Core.Bool.{true, false, not}
 use mathlib.Core.Logic.{_↔_}
 use Prim.Native.Nat.{ℕ, _≤_, _<_}
 use lib.Dec.{eqb}
 use borrow.Author.Tests.{eq-eqb, eqb-true, lt-ltb, le-ltb, ltb-true, ltb-false, not-true, not-false}
-use Rattle.small.specs.Small.{pick}
 use Rattle.small.proofs.Tests.{contrary}
 use Rattle.refusal.specs.Numbers.{noServer, noTask, taskPeriodic, noRoomAgain, unsound}
-use Rattle.refusal.specs.Refusal.{none, firstOf}
-use Rattle.refusal.specs.declared.Refusal.{Refusal}
+use Rattle.refusal.specs.Refusal.{firstOf}
 use Rattle.refusal.proofs.Exactly.{number-when, none-when, no-place}
 use Rattle.queue.specs.Limits.{longest}
 use Rattle.table.specs.Limits.{mostWork}
@@ -29,22 +27,7 @@ use Rattle.scheduler.specs.declared.Ticked.{Ticked}
 use Rattle.scheduler.specs.declared.Arrived.{Arrived}
 use Rattle.scheduler.specs.declared.Made.{Made}
 use Rattle.scheduler.specs.declared.Batch.{Batch}
-
--- What an answer says of its refusal: the number and the place are those of the first test that holds
-module _ {A : Type 0} (refusal : A → Refusal) (r : Refusal) (next kept : A) (accepted : refusal next ≡ none) (refused : refusal kept ≡ r) where
-  given-number : refusal (pick (eqb (r .number) 0) next kept) .number ≡ r .number
-  given-number = go (eqb (r .number) 0) refl
-    where
-      go : (b : Bool) → eqb (r .number) 0 ≡ b → refusal (pick b next kept) .number ≡ r .number
-      go true e = ap (λ (x : Refusal). x .number) accepted ∙ sym (eqb-true (r .number) 0 e)
-      go false e = ap (λ (x : Refusal). x .number) refused
-
-  given-place : r .place ≡ 0 → refusal (pick (eqb (r .number) 0) next kept) .place ≡ 0
-  given-place p = go (eqb (r .number) 0)
-    where
-      go : (b : Bool) → refusal (pick b next kept) .place ≡ 0
-      go true = ap (λ (x : Refusal). x .place) accepted
-      go false = ap (λ (x : Refusal). x .place) refused ∙ p
+use Rattle.scheduler.proofs.Answers.{given-number, given-place}
 
 -- TICK
 

@@ -33,10 +33,9 @@ use Rattle.table.specs.declared.Release.the-variants.{OnArrival, Periodic}
 use Rattle.table.specs.declared.Task.{Task}
 use Rattle.table.specs.declared.Server.{Server}
 use Rattle.table.proofs.Soundness.{table-sound}
-use Rattle.scheduler.specs.State.{mostPending, mostLost, zeroLoad, zeroEntry, serverAt, entryAt, taskAt, loadAt}
+use Rattle.scheduler.specs.State.{mostPending, mostLost, zeroLoad, zeroEntry, serverAt, entryAt, taskAt, loadAt, periodAt}
 use Rattle.scheduler.specs.Choice.{pendingb, somePending}
 use Rattle.scheduler.specs.Sound.{releaseReach, taskReaches, serverReaches, loadb, zeroLoadb, entryb, spentb, stateb}
-use Rattle.scheduler.specs.Tick.{periodAt}
 use Rattle.scheduler.specs.Meaning.{SizedState, releaseAt, largerAt, PeriodicTask, SoundState}
 use Rattle.scheduler.specs.declared.Load.{Load}
 use Rattle.scheduler.specs.declared.Entry.{Entry}

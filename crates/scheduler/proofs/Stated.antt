@@ -167,6 +167,28 @@ work-below (t ∷ ts) (suc n) h (suc j) = work-below ts n (both-right (taskb lon
 
 -- THE STATE
 
+-- what its test says of its parts
+pub record Parts (s : State) : Type 0 where
+  pub table : tableb longest mostWork (s .table) ≡ true
+  pub entries : entriesb (s .table .servers) (s .entries) ≡ true
+  pub refills : holdsb maxGap longest (serverReaches (s .table .servers)) (s .refills) ≡ true
+  pub spent : allSpentb (s .table .servers) (s .entries) ≡ true
+
+pub state-parts : (s : State) → stateb s ≡ true ↔ Parts s
+unfolding stateb
+state-parts s = (
+  λ h.
+      let r = both-right (tableb longest mostWork (s .table)) _ h in
+      let q = both-right (entriesb (s .table .servers) (s .entries)) _ r in
+      record {
+        table = both-left _ _ h;
+        entries = both-left _ _ r;
+        refills = both-left _ _ q;
+        spent = both-right (holdsb maxGap longest (serverReaches (s .table .servers)) (s .refills)) _ q;
+      },
+  λ h. rw (h .table, h .entries, h .refills) (h .spent),
+)
+
 -- "eight server entries": every state of the code has them; an array of a struct is a bare list here
 pub record Eight (s : State) : Type 0 where
   pub servers : length (s .table .servers) ≡ entries

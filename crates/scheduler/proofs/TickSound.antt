@@ -1,44 +1,36 @@
 -- Why a sound state stays sound under a tick and an arrival (Keeps says that it does): each load, each entry, the queues, and room for every event that is due. No
--- array's length is assumed: what is past the table's count is zero, and so has no event. Assumes nothing.
+-- array's length is assumed. Assumes nothing.
 use mathlib.Core.Path.{_≡_, refl, sym, _∙_}
 use mathlib.Core.Bool.{Bool, true, false}
 use mathlib.Core.List.{List, [], _∷_}
-use mathlib.Core.Logic.{_↔_}
-use Prim.Native.Nat.{ℕ, zero, suc, _+_, _-_, _≤_, _<_}
+use Prim.Native.Nat.{ℕ, _+_, _-_, _≤_, _<_}
 use native.Mathlib.Omega.{arith}
 use lib.Dec.{leb, ltb, eqb}
 use lib.ListN.{getD}
 use borrow.Author.Tests.{ltb-true, leb-true, le-leb, eq-eqb, eqb-true}
 use Rattle.small.specs.Small.{pick, usedb}
-use Rattle.small.proofs.Tests.{both-left, both-right, contrary}
-use Rattle.small.proofs.Used.{used-any, used-one, in-use}
+use Rattle.small.proofs.Tests.{both-left, both-right}
+use Rattle.small.proofs.Used.{used-any, used-one}
 use Rattle.refusal.specs.Refusal.{none}
-use Rattle.queue.specs.Limits.{maxGap, longest}
-use Rattle.queue.specs.Holds.{holdsb}
 use Rattle.queue.proofs.DueTimes.{there}
-use Rattle.table.specs.Limits.{mostWork, entries}
-use Rattle.table.specs.Table.{periodOf, zeroTask, zeroServer, periodIn}
-use Rattle.table.specs.Sound.{rangeb, releaseb, taskb, arrivalb, zeroTaskb, serverb, zeroServerb, tableb}
-use Rattle.table.specs.declared.Release.{Release}
-use Rattle.table.specs.declared.Release.the-variants.{OnArrival, Periodic}
-use Rattle.table.specs.declared.Task.{Task}
+use Rattle.table.specs.Limits.{entries}
+use Rattle.table.specs.Table.{zeroServer}
 use Rattle.table.specs.declared.Server.{Server}
-use Rattle.table.specs.declared.Table.{Table}
-use Rattle.table.proofs.SoundLaws.{range-within}
-use Rattle.scheduler.specs.State.{mostPending, mostLost, load, withBudget, serverAt, taskAt}
-use Rattle.scheduler.specs.Sound.{releaseReach, taskReaches, serverReaches, loadb, zeroLoadb, entryb, entriesb, allSpentb, stateb}
+use Rattle.scheduler.specs.State.{mostPending, mostLost, load, withBudget, serverAt, taskAt, taskDelay, periodAt, fullAt}
+use Rattle.scheduler.specs.Sound.{taskReaches, serverReaches, loadb, zeroLoadb, entryb, entriesb, stateb}
 use Rattle.scheduler.specs.Choice.{firstPending, chosenOf, choiceOf}
 use Rattle.scheduler.specs.Arrive.{fitsb, lostAfter, loadAfter, withArrival, withLoads}
 use Rattle.scheduler.specs.Moves.{chargedEntries}
-use Rattle.scheduler.specs.Tick.{lessWork, charge, dueIn, roomOf, taskDelay, refilled, periodAt, fullAt, arrivedLoads, arrivalsTurn, served4, eachEntry, allRoomb, stateAfter, handledOf, againb, tickedWith, tickOf}
+use Rattle.scheduler.specs.Tick.{lessWork, charge, dueIn, roomOf, refilled, arrivedLoads, arrivalsTurn, served4, eachEntry, allRoomb, stateAfter, handledOf, againb, tickedWith, tickOf}
 use Rattle.scheduler.specs.declared.Load.{Load}
 use Rattle.scheduler.specs.declared.Entry.{Entry}
 use Rattle.scheduler.specs.declared.State.{State}
-use Rattle.scheduler.proofs.Stated.{EntryStated, entry-stated, ServerStated, server-stated, zero-stated, server-reach, task-reach, paired-one}
+use Rattle.scheduler.proofs.Stated.{EntryStated, entry-stated, ServerStated, Parts, state-parts, paired-one}
 use Rattle.scheduler.proofs.Refusals.{tick-accepted}
 use Rattle.scheduler.proofs.Answers.{tick-done}
 use Rattle.scheduler.proofs.HeldEach.{HeldEach, held-each, held-reached}
-use Rattle.scheduler.proofs.AgainLaws.{inb, Delayed, held-accepted, held-again, held-due}
+use Rattle.scheduler.proofs.Delays.{task-delayed, Every, table-every, server-delayed}
+use Rattle.scheduler.proofs.AgainLaws.{inb, held-accepted, held-again, held-due}
 
 -- LOADS
 
@@ -112,34 +104,7 @@ load-sound s E j l e h =
       arrivals = p .arrivals;
     }
 
--- a release that has a reach: its period is 1 to that
-release-reach : (r : Release) → 1 ≤ releaseReach r → releaseb longest r ≡ true → (1 ≤ periodOf r) × ((periodOf r ≤ releaseReach r) × (releaseReach r ≤ longest))
-release-reach OnArrival h u = absurd (omega arith)
-release-reach (Periodic T O) h u =
-    let w = range-within 1 longest (T .0) .0 (both-left _ _ u) in
-    let o : O .0 ≤ longest = leb-true (O .0) longest (both-right (rangeb 1 longest (T .0)) _ u) in
-    (w .low, go (leb (T .0) (O .0)) refl o (w .high))
-  where
-    go : (b : Bool) → leb (T .0) (O .0) ≡ b → O .0 ≤ longest → T .0 ≤ longest → (T .0 ≤ pick b (O .0) (T .0)) × (pick b (O .0) (T .0) ≤ longest)
-    go true p o t = (leb-true (T .0) (O .0) p, o)
-    go false p o t = (omega arith, t)
-
-zero-reach : (t : Task) → zeroTaskb t ≡ true → releaseReach (t .release) ≡ 0
-zero-reach t h = go (t .release) (both-right (eqb (t .work .0) 0) _ h)
-  where
-    go : (r : Release) → arrivalb r ≡ true → releaseReach r ≡ 0
-    go OnArrival a = refl
-    go (Periodic T O) a = contrary a refl
-
 module _ (s : Server) (k : ServerStated s) where
-  -- a task that has arrivals of its own is in use, and its period is in reach
-  pub task-delayed : (j : ℕ) → 1 ≤ getD (taskReaches (s .tasks)) j 0 → (j < s .count) × Delayed (taskDelay s) (taskReaches (s .tasks)) j
-  task-delayed j h =
-      let e = task-reach (s .tasks) j in
-      let u = in-use (taskb longest mostWork) zeroTaskb zeroTask refl (s .tasks) (s .count) j (k .tasks) (λ z. omega (arith, zero-reach (taskAt s j) z)) in
-      let r = release-reach (taskAt s j .release) (omega arith) (both-right (rangeb 1 mostWork (taskAt s j .work .0)) _ (u .1)) in
-      (u .0, record { place = omega (arith, u .0, k .count); low = r .0; high = omega (arith, r .1 .0); near = omega (arith, r .1 .1) })
-
   module _ (e : Entry) (h : entryb s e ≡ true) where
     parts : EntryStated s e
     parts = entry-stated s e .0 h
@@ -149,7 +114,7 @@ module _ (s : Server) (k : ServerStated s) where
 
     -- every arrival that is due finds room
     serve-room : roomOf (taskDelay s) (e .arrivals) ≡ true
-    serve-room = held-accepted (taskDelay s) (taskReaches (s .tasks)) (e .arrivals) queue (λ j m. task-delayed j m .1)
+    serve-room = held-accepted (taskDelay s) (taskReaches (s .tasks)) (e .arrivals) queue (λ j m. task-delayed s k j m .1)
 
     serve-sound : entryb s (served4 s e) ≡ true
     unfolding served4
@@ -159,13 +124,13 @@ module _ (s : Server) (k : ServerStated s) where
           loads = arrived-used s (s .count) (dueIn (e .arrivals)) (e .loads) used (parts .loads);
           arrivals =
               held-each (taskReaches (s .tasks)) (arrivalsTurn s e) .1
-              (held-again (taskDelay s) (taskReaches (s .tasks)) (e .arrivals) queue (λ j m. task-delayed j m .1));
+              (held-again (taskDelay s) (taskReaches (s .tasks)) (e .arrivals) queue (λ j m. task-delayed s k j m .1));
         }
       where
         used : (j : ℕ) → inb j (dueIn (e .arrivals)) ≡ true → j < s .count
         used j d =
             let t : there j (e .arrivals) ≡ true = both-left _ _ (sym (held-due (taskReaches (s .tasks)) (e .arrivals) queue j) ∙ d) in
-            task-delayed j (held-reached (taskReaches (s .tasks)) (e .arrivals) queue j t) .0
+            task-delayed s k j (held-reached (taskReaches (s .tasks)) (e .arrivals) queue j t) .0
 
 -- ALL ENTRIES
 
@@ -177,16 +142,6 @@ entries-refilled : (ss : List Server) (ids : List ℕ) (es : List Entry) → ent
 entries-refilled ss [] es h = h
 entries-refilled ss (id ∷ ids) es h = entries-refilled ss ids _ (paired-one entryb (withBudget (fullIn ss id)) ss es id (fill-sound (getD ss id zeroServer)) h)
 
--- what is known of every server of a table, in use or not
-abbrev pub Every : List Server → Type 0
-Every [] = Unit
-Every (s ∷ ss) = ServerStated s × Every ss
-
-every : (ss : List Server) (n : ℕ) → usedb (serverb longest mostWork) zeroServerb ss n ≡ true → Every ss
-every [] n h = tt
-every (s ∷ ss) zero h = (zero-stated s (both-left _ _ h), every ss zero (both-right (zeroServerb s) _ h))
-every (s ∷ ss) (suc n) h = (server-stated s (both-left _ _ h), every ss n (both-right (serverb longest mostWork s) _ h))
-
 pub entries-served : (ss : List Server) (es : List Entry) → Every ss → entriesb ss es ≡ true → entriesb ss (eachEntry served4 ss es) ≡ true
 entries-served [] es k h = refl
 entries-served (s ∷ ss) [] k h = refl
@@ -196,53 +151,6 @@ entries-room : (ss : List Server) (es : List Entry) → Every ss → entriesb ss
 entries-room [] es k h = refl
 entries-room (s ∷ ss) [] k h = refl
 entries-room (s ∷ ss) (e ∷ es) k h = rw (serve-room s (k .0) e (both-left _ _ h)) (entries-room ss es (k .1) (both-right (entryb s e) _ h))
-
--- THE STATE
-
--- what its test says of its parts
-pub record Parts (s : State) : Type 0 where
-  pub table : tableb longest mostWork (s .table) ≡ true
-  pub entries : entriesb (s .table .servers) (s .entries) ≡ true
-  pub refills : holdsb maxGap longest (serverReaches (s .table .servers)) (s .refills) ≡ true
-  pub spent : allSpentb (s .table .servers) (s .entries) ≡ true
-
-pub state-parts : (s : State) → stateb s ≡ true ↔ Parts s
-unfolding stateb
-state-parts s = (
-  λ h.
-      let r = both-right (tableb longest mostWork (s .table)) _ h in
-      let q = both-right (entriesb (s .table .servers) (s .entries)) _ r in
-      record {
-        table = both-left _ _ h;
-        entries = both-left _ _ r;
-        refills = both-left _ _ q;
-        spent = both-right (holdsb maxGap longest (serverReaches (s .table .servers)) (s .refills)) _ q;
-      },
-  λ h. rw (h .table, h .entries, h .refills) (h .spent),
-)
-
--- THE TABLE
-
-module _ (t : Table) (h : tableb longest mostWork t ≡ true) where
-  pub table-used : usedb (serverb longest mostWork) zeroServerb (t .servers) (t .count) ≡ true
-  unfolding tableb
-  table-used = both-right (rangeb 1 entries (t .count)) _ h
-
-  pub table-every : Every (t .servers)
-  table-every = every (t .servers) (t .count) table-used
-
-  pub table-few : t .count ≤ entries
-  unfolding tableb
-  table-few = range-within 1 entries (t .count) .0 (both-left _ _ h) .high
-
-  -- a server that has replenishments is in use
-  pub server-delayed : (j : ℕ) → 1 ≤ getD (serverReaches (t .servers)) j 0 → Delayed (periodIn t) (serverReaches (t .servers)) j
-  server-delayed j r =
-      let s = getD (t .servers) j zeroServer in
-      let e = server-reach (t .servers) j in
-      let zero : zeroServerb s ≡ true → ⊥ = λ z. omega (arith, eqb-true (s .period .0) 0 (both-left _ _ (both-right (eqb (s .kind) 0) _ z))) in
-      let u = in-use (serverb longest mostWork) zeroServerb zeroServer refl (t .servers) (t .count) j table-used zero in
-      record { place = omega (arith, u .0, table-few); low = omega arith; high = omega arith; near = omega (arith, server-stated s (u .1) .period) }
 
 -- A TICK
 

@@ -30,7 +30,8 @@ use Rattle.scheduler.specs.Tick.{clocked, dueIds, dueIn, putAgain, again
 use Rattle.scheduler.specs.Moves.{requeued, allOf, Turning}
 use Rattle.scheduler.proofs.Stated.{held, within-each}
 use Rattle.scheduler.proofs.HeldEach.{HeldEach, held-each, held-few, held-rests}
-use Rattle.scheduler.proofs.AgainLaws.{Delayed, ids-with, earlier-length}
+use Rattle.scheduler.proofs.Delays.{Delayed}
+use Rattle.scheduler.proofs.AgainLaws.{ids-with, earlier-length}
 
 -- DUE EVENTS
 

@@ -17,10 +17,9 @@ use Rattle.table.specs.Limits.{mostWork, entries}
 use Rattle.table.specs.Table.{releaseNumber, periodOf, offsetOf}
 use Rattle.table.specs.Meaning.{Within, SoundTable, Sized}
 use Rattle.table.specs.declared.Release.{Release}
-use Rattle.scheduler.specs.State.{mostPending, mostLost, zeroLoad, zeroEntry, serverAt, entryAt, taskAt, loadAt}
+use Rattle.scheduler.specs.State.{mostPending, mostLost, zeroLoad, zeroEntry, serverAt, entryAt, taskAt, loadAt, periodAt, fullAt}
 use Rattle.scheduler.specs.Choice.{pendingb, readyb, choiceOf, servesb}
 use Rattle.scheduler.specs.Polling.{lapsesb}
-use Rattle.scheduler.specs.Tick.{periodAt, fullAt}
 use Rattle.scheduler.specs.declared.Entry.{Entry}
 use Rattle.scheduler.specs.declared.State.{State}
 use Rattle.scheduler.specs.declared.Choice.{Choice}

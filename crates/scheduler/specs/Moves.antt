@@ -3,7 +3,7 @@ use mathlib.Core.Path.{_≡_}
 use mathlib.Core.Bool.{Bool, true, false}
 use mathlib.Core.List.{List, [], _∷_}
 use Prim.Native.Nat.{ℕ, _≤_, _<_}
-use lib.Dec.{leb, ltb, eqb}
+use lib.Dec.{leb, eqb}
 use lib.ListN.{length, getD}
 use Rattle.small.specs.Small.{both, alter}
 use Rattle.queue.specs.Limits.{maxGap, longest}
@@ -18,10 +18,9 @@ use Rattle.table.specs.Sound.{tasksb}
 use Rattle.table.specs.declared.Server.{Server}
 use Rattle.scheduler.specs.declared.State.{State}
 use Rattle.scheduler.specs.Choice.{chosenOf}
-use Rattle.scheduler.specs.State.{mostPending, taskAt}
-use Rattle.scheduler.specs.Polling.{lapsesb}
+use Rattle.scheduler.specs.State.{mostPending, taskAt, taskDelay, fullAt}
 use Rattle.scheduler.specs.Arrive.{withArrival}
-use Rattle.scheduler.specs.Tick.{dueIds, dueIn, again, taskDelay, arrivedLoads, served4, charge, refilled, fullAt, eachEntry}
+use Rattle.scheduler.specs.Tick.{dueIds, dueIn, again, arrivedLoads, served4, charge, refilled, eachEntry}
 use Rattle.scheduler.specs.declared.Load.{Load}
 use Rattle.scheduler.specs.declared.Entry.{Entry}
 use Rattle.scheduler.specs.declared.EntryTurn.{EntryTurn}
@@ -85,10 +84,6 @@ withQueue q e = record { loads = e .loads; arrivals = q; budget = e .budget }
 -- step 4 for one server's queue: its entry after it, and how many of its events were due
 unfoldable pub servedTurn : Server → Entry → EntryTurn
 servedTurn s e = record { entry = served4 s e; handled = length (dueIn (e .arrivals)) }
-
--- a polling server with no pending work, and with budget to give up
-abbrev pub givesUpb : ℕ → Entry → Bool
-givesUpb kind e = both (lapsesb kind e) (ltb 0 (e .budget .0))
 
 -- no server from place n on is polling; past the end there is none
 abbrev pub PolledBelow : List Server → ℕ → Type 0

@@ -5,7 +5,7 @@ use Prim.Native.Nat.{ℕ}
 use lib.ListN.{getD, replicate}
 use Rattle.queue.specs.Row.{queueOf}
 use Rattle.table.specs.Limits.{entries}
-use Rattle.table.specs.Table.{served, zeroTask, zeroServer}
+use Rattle.table.specs.Table.{served, zeroTask, zeroServer, periodOf}
 use Rattle.table.specs.declared.Task.{Task}
 use Rattle.table.specs.declared.Server.{Server}
 use Rattle.scheduler.specs.declared.Load.{Load}
@@ -47,3 +47,14 @@ taskAt s j = getD (s .tasks) j zeroTask
 
 abbrev pub loadAt : State → ℕ → ℕ → Load
 loadAt s i j = getD (entryAt s i .loads) j zeroLoad
+
+-- P and C of the server at a place, and T of its task at a place, 0 where the task is not periodic
+
+abbrev pub periodAt : State → ℕ → ℕ
+periodAt s i = serverAt s i .period .0
+
+abbrev pub fullAt : State → ℕ → ℕ
+fullAt s i = serverAt s i .budget .0
+
+abbrev pub taskDelay : Server → ℕ → ℕ
+taskDelay s id = periodOf (taskAt s id .release)

@@ -13,9 +13,9 @@ use Rattle.queue.specs.Row.{Event, eventsOf}
 use Rattle.queue.specs.Calls.{clockOf, takeOf, insertOf}
 use Rattle.queue.specs.declared.Queue.{Queue}
 use Rattle.queue.specs.declared.Changed.{Changed}
-use Rattle.table.specs.Table.{served, periodOf}
+use Rattle.table.specs.Table.{served}
 use Rattle.table.specs.declared.Server.{Server}
-use Rattle.scheduler.specs.State.{load, withBudget, serverAt, taskAt}
+use Rattle.scheduler.specs.State.{load, withBudget, taskAt, periodAt, fullAt, taskDelay}
 use Rattle.scheduler.specs.Choice.{firstPending, chosenOf, choiceOf}
 use Rattle.scheduler.specs.Polling.{lapsed}
 use Rattle.scheduler.specs.Sound.{stateb}
@@ -80,12 +80,6 @@ abbrev pub refilled : (ℕ → ℕ) → List ℕ → List Entry → List Entry
 refilled full [] es = es
 refilled full (id ∷ ids) es = refilled full ids (alter (withBudget (full id)) es id)
 
-abbrev pub periodAt : State → ℕ → ℕ
-periodAt s i = serverAt s i .period .0
-
-abbrev pub fullAt : State → ℕ → ℕ
-fullAt s i = serverAt s i .budget .0
-
 abbrev pub refillsTurn : State → Queue
 refillsTurn s = turnOf (periodAt s) (s .refills)
 
@@ -94,9 +88,6 @@ refillsTurn s = turnOf (periodAt s) (s .refills)
 abbrev pub arrivedLoads : Server → List ℕ → List Load → List Load
 arrivedLoads s [] ls = ls
 arrivedLoads s (id ∷ ids) ls = arrivedLoads s ids (withArrival (taskAt s id .work .0) id ls)
-
-abbrev pub taskDelay : Server → ℕ → ℕ
-taskDelay s id = periodOf (taskAt s id .release)
 
 abbrev pub arrivalsTurn : Server → Entry → Queue
 arrivalsTurn s e = turnOf (taskDelay s) (e .arrivals)

@@ -26,7 +26,8 @@ ghost use Rattle.scheduler.specs.Arrive.{fitsb, loadAfter, arrivalBy, ar
 ghost use Rattle.scheduler.specs.Tick.{charge, tickOf};
 ghost use Rattle.scheduler.specs.Run.{batchSize, answersOf, stateAfterTicks, batchWith, runOf};
 ghost use Rattle.scheduler.specs.Fresh.{firstAway, firstWork, freshLoad, serverAway, freshQueue, freshEntry, emptyState, freshOf};
-ghost use Rattle.scheduler.specs.Moves.{tabledb, Clocked, dueTurn, servedTurn, withQueue, givesUpb, PolledBelow};
+ghost use Rattle.scheduler.specs.Polling.{givesUpb};
+ghost use Rattle.scheduler.specs.Moves.{tabledb, Clocked, dueTurn, servedTurn, withQueue, PolledBelow};
 ghost use Rattle.scheduler.specs.declared.Arrival.the-variants.{Accepted};
 
 // A task's pending work and its lost count.

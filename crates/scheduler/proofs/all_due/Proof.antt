@@ -10,10 +10,9 @@ use Rattle.queue.specs.Limits.{maxGap}
 use Rattle.queue.specs.Steps.{againStep}
 use Rattle.table.specs.Limits.{entries}
 use Rattle.table.specs.declared.Server.{Server}
-use Rattle.scheduler.specs.State.{zeroLoad, taskAt}
+use Rattle.scheduler.specs.State.{zeroLoad, taskAt, taskDelay}
 use Rattle.scheduler.specs.Arrive.{loadAfter, withArrival}
 use Rattle.scheduler.specs.Moves.{Clocked, Arriving, oneArrival, dueTurn}
-use Rattle.scheduler.specs.Tick.{taskDelay}
 use Rattle.scheduler.specs.declared.Entry.{Entry}
 use Rattle.scheduler.specs.declared.EntryTurn.{EntryTurn}
 use Rattle.scheduler.proofs.Stated.{below-at}

@@ -1,4 +1,4 @@
--- `scheduler::polled_entries` meets its contract. The loop's invariant: no server before i is polling. Those that are not in use are zero (proofs/Lapsing.antt).
+-- `scheduler::polled_entries` meets its contract. The loop's invariant: no server before i is polling. Those that are not in use are zero (proofs/LapsedEntries.antt).
 use mathlib.Core.Path.{_≡_}
 use mathlib.Core.Bool.{false}
 use Prim.Native.Nat.{ℕ, _-_, _<_}
@@ -13,7 +13,7 @@ use Rattle.table.specs.Limits.{entries}
 use Rattle.table.specs.Table.{zeroServer}
 use Rattle.table.proofs.Sizes.{pastServer}
 use Rattle.scheduler.proofs.Stated.{TableStated, table-stated}
-use Rattle.scheduler.proofs.Lapsing.{polled-all, polled-none}
+use Rattle.scheduler.proofs.LapsedEntries.{polled-all, polled-none}
 use Rattle.scheduler.proofs.polled_entries.Statement.{statement}
 use Rattle.scheduler.proofs.polled_entries.Tie as tie
 

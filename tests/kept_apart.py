@@ -20,14 +20,14 @@ fn main() {
     queue::insert(Queue::empty(), 0, s.period);
     let reach = [s.period; Queue::HELD];
     queue::holds(Queue::empty(), reach);
-    scheduler::fresh(Table::zero());
+    scheduler::tick(state::fresh(Table::zero()).state);
 }
 """
 # the crate that is edited, what stands there, what is put there, the type that is due and the type that is handed over
 EDITS = (
     ("program", "0, s.period", "0, s.budget", "Distance", "Served"),
     ("program", "[s.period; Queue::HELD]", "[s.budget; Queue::HELD]", "[Distance; 8]", "[Served; 8]"),
-    ("scheduler", "put_in(q, i as u8, s.period)", "put_in(q, i as u8, s.budget)", "Distance", "Served"),
+    ("state", "put_in(q, i as u8, s.period)", "put_in(q, i as u8, s.budget)", "Distance", "Served"),
     ("scheduler", "again(next.arrivals, table::period_of(r))", "again(next.arrivals, t.work)", "Distance", "Served"),
     ("table", "period: Distance(0)", "period: Served(0)", "Distance", "Served"),
     ("table", "budget: Served(0)", "budget: Distance(0)", "Served", "Distance"),

@@ -16,13 +16,13 @@ use Rattle.table.specs.Limits.{mostWork}
 use Rattle.table.specs.Sound.{tableb}
 use Rattle.table.specs.Meaning.{Sized}
 use Rattle.table.specs.declared.Table.{Table}
-use Rattle.scheduler.specs.State.{serverAt, entryAt}
-use Rattle.scheduler.specs.Choice.{somePending}
-use Rattle.scheduler.specs.Fresh.{freshOf}
-use Rattle.scheduler.specs.Meaning.{budgetAt, lapsesAt}
-use Rattle.scheduler.specs.declared.State.{State}
-use Rattle.scheduler.specs.declared.Choice.{Choice}
-use Rattle.scheduler.proofs.Laws.{polling-wants, not-polling, working}
+use Rattle.state.specs.State.{serverAt, entryAt}
+use Rattle.state.specs.Choice.{somePending}
+use Rattle.state.specs.Fresh.{freshOf}
+use Rattle.state.specs.Meaning.{budgetAt, lapsesAt}
+use Rattle.state.specs.declared.State.{State}
+use Rattle.state.specs.declared.Choice.{Choice}
+use Rattle.state.proofs.Laws.{polling-wants, not-polling, working}
 use Rattle.assurance.specs.History.{Call, Seen, ticksOf, ticksAsked, tickEnd}
 use Rattle.table.specs.Table.{kindIn, periodIn, budgetIn}
 use Rattle.assurance.specs.Demand3.{mostHeld, sure, periodTicks, periodEnds, wantsAt, runs, heldOff, declines, workless, Demand3}

@@ -7,9 +7,9 @@ use Rattle.queue.specs.Limits.{longest}
 use Rattle.table.specs.Limits.{mostWork}
 use Rattle.setup.specs.Read.{readOf}
 use Rattle.setup.proofs.RoundTrip.{accepted-sound}
-use Rattle.scheduler.specs.Fresh.{freshOf}
-use Rattle.scheduler.specs.declared.Made.{Made}
-use Rattle.scheduler.proofs.Laws.{fresh-made}
+use Rattle.state.specs.Fresh.{freshOf}
+use Rattle.state.specs.declared.Made.{Made}
+use Rattle.state.proofs.Laws.{fresh-made}
 use Rattle.assurance.specs.History.{Call, ticksOf, ticksAsked}
 use Rattle.assurance.specs.Demand3.{Demand3}
 use Rattle.assurance.proofs.Assured.{demand-3, all-ticks}

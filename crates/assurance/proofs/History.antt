@@ -16,20 +16,22 @@ use Rattle.table.specs.Sound.{tableb}
 use Rattle.table.specs.Meaning.{Sized}
 use Rattle.table.specs.declared.Table.{Table}
 use Rattle.table.proofs.Soundness.{table-sound}
-use Rattle.scheduler.specs.Sound.{stateb}
+use Rattle.state.specs.Sound.{stateb}
+use Rattle.state.specs.Fresh.{freshState, freshOf}
+use Rattle.state.specs.Meaning.{SizedState, lapsesAt}
+use Rattle.state.specs.declared.State.{State}
+use Rattle.state.specs.declared.Choice.{Choice}
+use Rattle.state.specs.declared.Choice.the-variants.{Idle}
+use Rattle.state.proofs.Keeps.{fresh-sound}
+use Rattle.state.proofs.FreshSizes.{fresh-sized}
+use Rattle.state.proofs.Laws.{fresh-made, fresh-budget, fresh-refill, chosen-first}
 use Rattle.scheduler.specs.Arrive.{arriveOf}
 use Rattle.scheduler.specs.Tick.{tickOf}
 use Rattle.scheduler.specs.Run.{ticksIn}
-use Rattle.scheduler.specs.Fresh.{freshState, freshOf}
-use Rattle.scheduler.specs.Meaning.{SizedState, lapsesAt}
-use Rattle.scheduler.specs.declared.State.{State}
-use Rattle.scheduler.specs.declared.Choice.{Choice}
-use Rattle.scheduler.specs.declared.Choice.the-variants.{Idle}
-use Rattle.scheduler.proofs.Keeps.{tick-sound, arrive-sound, fresh-sound}
+use Rattle.scheduler.proofs.Keeps.{tick-sound, arrive-sound}
 use Rattle.scheduler.proofs.TickSound.{tick-accepts}
-use Rattle.scheduler.proofs.FreshSizes.{fresh-sized}
 use Rattle.scheduler.proofs.KeptSizes.{tick-sized, arrive-sized}
-use Rattle.scheduler.proofs.Laws.{tick-spent, tick-filled, arrive-budget, arrive-refills, arrive-table, arrive-pending, tick-table, fresh-made, fresh-budget, fresh-refill, chosen-first}
+use Rattle.scheduler.proofs.Laws.{tick-spent, tick-filled, arrive-budget, arrive-refills, arrive-table, arrive-pending, tick-table}
 use Rattle.assurance.specs.History.{Call, tick, run, arrival, Seen, ticksOf, ticksAsked, tickEnd, endBefore}
 use Rattle.table.specs.Table.{periodIn}
 use Rattle.assurance.proofs.Ticks.{Full, OneTick, Since, Run, at-most}

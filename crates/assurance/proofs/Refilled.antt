@@ -17,20 +17,21 @@ use Rattle.table.specs.Limits.{mostWork}
 use Rattle.table.specs.Table.{zeroServer}
 use Rattle.table.specs.declared.Table.{Table}
 use Rattle.table.proofs.Soundness.{table-sound}
-use Rattle.scheduler.specs.State.{serverAt, fullAt}
-use Rattle.scheduler.specs.Sound.{stateb}
-use Rattle.scheduler.specs.Choice.{choiceOf, servesb}
+use Rattle.state.specs.State.{serverAt, fullAt}
+use Rattle.state.specs.Sound.{stateb}
+use Rattle.state.specs.Choice.{choiceOf, servesb}
+use Rattle.state.specs.Meaning.{SizedState, readyAt, budgetAt, lapsesAt, refillAway, Highest, Chosen}
+use Rattle.state.specs.declared.State.{State}
+use Rattle.state.specs.declared.Choice.{Choice}
+use Rattle.state.specs.declared.Choice.the-variants.{Idle, Burning, Running}
+use Rattle.state.proofs.Stated.{state-parts}
+use Rattle.state.proofs.Laws.{not-polling, working, chosen-first}
 use Rattle.scheduler.specs.Arrive.{arriveOf}
 use Rattle.scheduler.specs.Tick.{tickOf}
-use Rattle.scheduler.specs.Meaning.{SizedState, readyAt, budgetAt, lapsesAt, refillAway, Highest, Chosen}
-use Rattle.scheduler.specs.declared.State.{State}
-use Rattle.scheduler.specs.declared.Choice.{Choice}
-use Rattle.scheduler.specs.declared.Choice.the-variants.{Idle, Burning, Running}
 use Rattle.scheduler.proofs.Keeps.{ticked-sound, arrive-sound}
-use Rattle.scheduler.proofs.Stated.{state-parts}
 use Rattle.scheduler.proofs.TickSound.{tick-accepts}
 use Rattle.scheduler.proofs.KeptSizes.{tick-sized, arrive-sized}
-use Rattle.scheduler.proofs.Laws.{tick-filled, tick-table, not-polling, working, arrive-budget, chosen-first}
+use Rattle.scheduler.proofs.Laws.{tick-filled, tick-table, arrive-budget}
 use Rattle.assurance.specs.History.{arrived}
 use Rattle.assurance.specs.Demand3.{wantsAt, workless}
 

@@ -6,10 +6,10 @@ use mathlib.Core.Logic.{_≢_}
 use Prim.Native.Nat.{ℕ, zero, suc}
 use lib.ListN.{take, replicate}
 use Rattle.small.proofs.Tests.{contrary}
-use Rattle.scheduler.specs.Sound.{stateb}
+use Rattle.state.specs.Sound.{stateb}
+use Rattle.state.specs.declared.State.{State}
 use Rattle.scheduler.specs.Tick.{tickOf}
 use Rattle.scheduler.specs.Run.{answersOf, stateAfterTicks, ticksIn}
-use Rattle.scheduler.specs.declared.State.{State}
 use Rattle.scheduler.specs.declared.Answer.{Answer}
 use Rattle.scheduler.proofs.Refusals.{run-accepted}
 use Rattle.scheduler.proofs.Answers.{run-done}

@@ -4,9 +4,9 @@ use mathlib.Core.Bool.{true}
 use mathlib.Core.List.{List, _∷_}
 use mathlib.Core.Logic.{_≢_}
 use borrow.Author.Tests.{ne-eqb}
-use Rattle.scheduler.specs.Sound.{stateb}
+use Rattle.state.specs.Sound.{stateb}
+use Rattle.state.specs.declared.State.{State}
 use Rattle.scheduler.specs.Tick.{tickOf}
-use Rattle.scheduler.specs.declared.State.{State}
 use Rattle.scheduler.proofs.Unchanged.{tick-unchanged}
 use Rattle.scheduler.proofs.Keeps.{tick-sound-accepted}
 use Rattle.assurance.specs.History.{Call, tick, seen, ticksOf}

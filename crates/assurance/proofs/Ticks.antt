@@ -11,12 +11,12 @@ use Rattle.small.specs.Small.{pick, both, sumBelow, num}
 use Rattle.small.proofs.Tests.{both-right, both-false}
 use Rattle.small.proofs.Sums.{sum-term}
 use Rattle.table.specs.declared.Table.{Table}
-use Rattle.scheduler.specs.State.{entryAt}
-use Rattle.scheduler.specs.Choice.{somePending, servesb}
-use Rattle.scheduler.specs.Meaning.{readyAt, budgetAt, lapsesAt, refillAway, Highest, Chosen}
-use Rattle.scheduler.specs.declared.State.{State}
-use Rattle.scheduler.specs.declared.Choice.{Choice}
-use Rattle.scheduler.specs.declared.Choice.the-variants.{Idle, Burning, Running}
+use Rattle.state.specs.State.{entryAt}
+use Rattle.state.specs.Choice.{somePending, servesb}
+use Rattle.state.specs.Meaning.{readyAt, budgetAt, lapsesAt, refillAway, Highest, Chosen}
+use Rattle.state.specs.declared.State.{State}
+use Rattle.state.specs.declared.Choice.{Choice}
+use Rattle.state.specs.declared.Choice.the-variants.{Idle, Burning, Running}
 use Rattle.table.specs.Table.{periodIn, budgetIn}
 use Rattle.assurance.specs.Demand3.{mostHeld, sure, wantsAt}
 use Rattle.assurance.proofs.Account.{Account, counted, most, busy, last, charged-to}

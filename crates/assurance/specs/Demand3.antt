@@ -11,11 +11,11 @@ use Rattle.small.specs.Small.{both, sumBelow, tally}
 use Rattle.table.specs.Kind.{pollingKind}
 use Rattle.table.specs.Table.{kindIn, periodIn, budgetIn}
 use Rattle.table.specs.declared.Table.{Table}
-use Rattle.scheduler.specs.State.{serverAt, entryAt}
-use Rattle.scheduler.specs.Choice.{somePending, wantsb, servesb}
-use Rattle.scheduler.specs.Fresh.{freshOf}
-use Rattle.scheduler.specs.Meaning.{budgetAt}
-use Rattle.scheduler.specs.declared.State.{State}
+use Rattle.state.specs.State.{serverAt, entryAt}
+use Rattle.state.specs.Choice.{somePending, wantsb, servesb}
+use Rattle.state.specs.Fresh.{freshOf}
+use Rattle.state.specs.Meaning.{budgetAt}
+use Rattle.state.specs.declared.State.{State}
 use Rattle.assurance.specs.History.{Call, Seen, historyOf, tickEnd, endBefore}
 
 -- W

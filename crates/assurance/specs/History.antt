@@ -6,12 +6,12 @@ use lib.Dec.{eqb}
 use lib.ListN.{take, getD}
 use Rattle.small.specs.Small.{pick}
 use Rattle.table.specs.declared.Table.{Table}
+use Rattle.state.specs.Fresh.{freshOf}
+use Rattle.state.specs.declared.State.{State}
+use Rattle.state.specs.declared.Choice.{Choice}
 use Rattle.scheduler.specs.Arrive.{arriveOf}
 use Rattle.scheduler.specs.Tick.{tickOf}
 use Rattle.scheduler.specs.Run.{ticksIn, runOf}
-use Rattle.scheduler.specs.Fresh.{freshOf}
-use Rattle.scheduler.specs.declared.State.{State}
-use Rattle.scheduler.specs.declared.Choice.{Choice}
 use Rattle.scheduler.specs.declared.Answer.{Answer}
 
 -- "over any calls": a tick, a run of any number of ticks in one call, and an arrival at any server and task, also at one that is not there

@@ -8,9 +8,9 @@ use Rattle.table.specs.Kind.{idlingKind, deferrableKind, pollingKind}
 use Rattle.table.specs.Limits.{mostWork}
 use Rattle.table.specs.Sound.{tableb}
 use Rattle.table.specs.declared.Table.{Table}
+use Rattle.state.specs.Fresh.{freshOf}
 use Rattle.scheduler.specs.Edge.{onArrival, periodic, server, setup, example}
 use Rattle.scheduler.specs.Run.{stateAfterTicks}
-use Rattle.scheduler.specs.Fresh.{freshOf}
 use Rattle.assurance.specs.History.{Call, tick, run, arrival, Seen}
 use Rattle.small.specs.Small.{tally}
 use Rattle.assurance.specs.Demand3.{mostHeld, sure, periodTicks, periodEnds, runs, heldOff, declines, workless}

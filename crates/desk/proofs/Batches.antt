@@ -9,12 +9,12 @@ use lib.Dec.{eqb}
 use lib.ListN.{length, replicate}
 use borrow.Author.Tests.{eqb-true, eqb-false}
 use Rattle.small.specs.Small.{pick}
-use Rattle.scheduler.specs.Sound.{stateb}
+use Rattle.state.specs.Sound.{stateb}
+use Rattle.state.specs.declared.Choice.the-variants.{Idle}
+use Rattle.state.specs.declared.State.{State}
 use Rattle.scheduler.specs.Tick.{tickOf}
 use Rattle.scheduler.specs.Run.{batchSize, answer, answersOf, stateAfterTicks}
-use Rattle.scheduler.specs.declared.Choice.the-variants.{Idle}
 use Rattle.scheduler.specs.declared.Answer.{Answer}
-use Rattle.scheduler.specs.declared.State.{State}
 use Rattle.scheduler.proofs.Keeps.{ticks-sound}
 use Rattle.lines.specs.Lines.{tickLine, answerLines}
 use Rattle.desk.specs.Desk.{tickLimit, deskWith, ranOf}

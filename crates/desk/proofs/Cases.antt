@@ -17,9 +17,9 @@ use Rattle.message.specs.Message.{readWith, readChecks, readOf}
 use Rattle.message.specs.declared.Message.{Message}
 use Rattle.message.specs.declared.Message.the-variants.{Run, Arrival}
 use Rattle.message.proofs.Answers.{read-decided}
-use Rattle.scheduler.specs.Sound.{stateb}
+use Rattle.state.specs.Sound.{stateb}
+use Rattle.state.specs.declared.State.{State}
 use Rattle.scheduler.specs.Arrive.{arrivalNumber, arriveChecks, arriveOf}
-use Rattle.scheduler.specs.declared.State.{State}
 use Rattle.scheduler.specs.declared.Arrived.{Arrived}
 use Rattle.scheduler.proofs.Refusals.{arrive-31}
 use Rattle.scheduler.proofs.Unchanged.{arrive-unchanged}

@@ -8,8 +8,8 @@ use lib.Dec.{ltb, eqb}
 use borrow.Author.Tests.{ltb-false}
 use Rattle.small.specs.Small.{pick}
 use Rattle.refusal.specs.Refusal.{none, firstOf}
+use Rattle.state.specs.declared.State.{State}
 use Rattle.scheduler.specs.Run.{batchSize, answersOf, stateAfterTicks, ticksIn, runChecks, batchWith, runOf}
-use Rattle.scheduler.specs.declared.State.{State}
 use Rattle.desk.specs.Desk.{tickLimit}
 
 -- a run has no more ticks than it is asked for, and never more than 64

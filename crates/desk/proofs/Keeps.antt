@@ -15,10 +15,11 @@ use Rattle.setup.proofs.RoundTrip.{accepted-sound}
 use Rattle.message.specs.Message.{readOf}
 use Rattle.message.specs.declared.Message.{Message}
 use Rattle.message.specs.declared.Message.the-variants.{Run, Arrival}
-use Rattle.scheduler.specs.Sound.{stateb}
+use Rattle.state.specs.Sound.{stateb}
+use Rattle.state.proofs.Keeps.{fresh-sound}
+use Rattle.state.proofs.Laws.{fresh-made}
 use Rattle.scheduler.specs.Run.{ticksIn}
-use Rattle.scheduler.proofs.Keeps.{arrive-sound, ticks-sound, fresh-sound}
-use Rattle.scheduler.proofs.Laws.{fresh-made}
+use Rattle.scheduler.proofs.Keeps.{arrive-sound, ticks-sound}
 use Rattle.lines.specs.declared.Line.the-variants.{Nothing, Refused}
 use Rattle.desk.specs.Desk.{tickLimit, deskWith, met, openOf, askedOf, arrivedOf, doneOf, messageOf, ranOf}
 use Rattle.desk.specs.Trace.{behindLeft}

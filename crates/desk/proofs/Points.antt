@@ -7,12 +7,12 @@ use Rattle.queue.specs.Calls.{insertOf, clockOf, takeOf}
 use Rattle.table.specs.Sound.{tableb}
 use Rattle.setup.specs.Read.{taskChecks, taskOf, headChecks, serverChecks, serverOf, startChecks, setupChecks, tableOf, readOf as setupOf}
 use Rattle.message.specs.Message.{readOf}
-use Rattle.scheduler.specs.Sound.{entryb, stateb}
-use Rattle.scheduler.specs.Choice.{wantsb, chosenOf, choiceOf}
-use Rattle.scheduler.specs.Polling.{lapsed}
+use Rattle.state.specs.Sound.{entryb, stateb}
+use Rattle.state.specs.Choice.{wantsb, chosenOf, choiceOf}
+use Rattle.state.specs.Polling.{lapsed}
+use Rattle.state.specs.Fresh.{freshQueue, freshEntry, freshState, freshOf}
 use Rattle.scheduler.specs.Arrive.{loadAfter, arriveOf}
 use Rattle.scheduler.specs.Tick.{charge, turnOf, roomOf, served4, stateAfter, handledOf, againb, tickOf}
-use Rattle.scheduler.specs.Fresh.{freshQueue, freshEntry, freshState, freshOf}
 use Rattle.lines.specs.Decimal.{decimal}
 use Rattle.desk.specs.Desk.{openOf, askedOf, arrivedOf, messageOf}
 use Rattle.desk.specs.Trace.{traceOf}

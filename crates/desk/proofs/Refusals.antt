@@ -17,7 +17,7 @@ use Rattle.message.specs.Message.{kindOf, readWith, readOf}
 use Rattle.message.specs.declared.Message.the-variants.{Run, Arrival}
 use Rattle.message.specs.declared.Reading.{Reading}
 use Rattle.message.proofs.Unchanged.{read-zero}
-use Rattle.scheduler.specs.Sound.{stateb}
+use Rattle.state.specs.Sound.{stateb}
 use Rattle.scheduler.specs.Arrive.{arriveOf}
 use Rattle.scheduler.proofs.Refusals.{arrive-31}
 use Rattle.desk.specs.Desk.{tickLimit, openOf, messageOf, ranChecks, ranOf}

@@ -9,7 +9,7 @@ use Rattle.table.specs.Limits.{mostWork}
 use Rattle.table.specs.Table.{zeroTable}
 use Rattle.table.specs.Sound.{tableb}
 use Rattle.setup.proofs.Unchanged.{read-refused}
-use Rattle.scheduler.specs.Fresh.{emptyState, freshOf}
+use Rattle.state.specs.Fresh.{emptyState, freshOf}
 use Rattle.lines.specs.declared.Line.the-variants.{Refused}
 use Rattle.desk.specs.Desk.{deskWith, openOf, messageOf, notRun, ranOf}
 use Rattle.desk.specs.Meaning.{lineNumber}

@@ -13,12 +13,12 @@ use Rattle.setup.specs.Read.{readOf as setupOf}
 use Rattle.message.specs.Message.{readOf}
 use Rattle.message.specs.declared.Message.{Message}
 use Rattle.message.specs.declared.Message.the-variants.{Run, Arrival}
-use Rattle.scheduler.specs.Sound.{stateb}
+use Rattle.state.specs.Sound.{stateb}
+use Rattle.state.specs.Fresh.{freshOf}
+use Rattle.state.specs.declared.State.{State}
+use Rattle.state.specs.declared.Choice.the-variants.{Idle}
 use Rattle.scheduler.specs.Arrive.{arrivalNumber, arriveOf}
 use Rattle.scheduler.specs.Run.{batchSize, answer, runOf}
-use Rattle.scheduler.specs.Fresh.{freshOf}
-use Rattle.scheduler.specs.declared.State.{State}
-use Rattle.scheduler.specs.declared.Choice.the-variants.{Idle}
 use Rattle.scheduler.specs.declared.Answer.{Answer}
 use Rattle.scheduler.specs.declared.Arrived.{Arrived}
 use Rattle.lines.specs.declared.Line.{Line}

@@ -4,7 +4,7 @@ use message::Message;
 use refusal::Refusal;
 use scheduler::Answer;
 use scheduler::Arrival;
-use scheduler::State;
+use state::State;
 ghost use mathlib.Core.Path.{_≡_};
 ghost use mathlib.Core.Bool.{true, false};
 ghost use Prim.Native.Nat.{_+_};
@@ -52,7 +52,7 @@ pub fn open(setup: &[u8]) -> Opened
     ensures { λ r. ⌜ r ≡ openOf (now (setup .entry)) ⌝ }
 {
     let r = setup::read(setup);
-    let m = scheduler::fresh(r.table);
+    let m = state::fresh(r.table);
     let refusal = r.refusal;
     Opened {
         desk: with_state(m.state, 0, 0),
@@ -132,7 +132,7 @@ fn goes_on(d: Desk, l: Line) -> Met
 fn unread(d: Desk, number: u8, place: u64) -> Met
     ensures { λ r. ⌜ r ≡ soundFirst d place (met d (Refused number place) true) ⌝ }
 {
-    if !scheduler::sound(d.state) {
+    if !state::sound(d.state) {
         return stopped(d, Refusal::UNSOUND, place);
     }
     stopped(d, number, place)
@@ -142,7 +142,7 @@ fn unread(d: Desk, number: u8, place: u64) -> Met
 fn asked(d: Desk, n: u16, place: u64) -> Met
     ensures { λ r. ⌜ r ≡ soundFirst d place (askedOf d n place) ⌝ }
 {
-    if !scheduler::sound(d.state) {
+    if !state::sound(d.state) {
         return stopped(d, Refusal::UNSOUND, place);
     }
     if Desk::LIMIT < (d.ran as u64) + (d.left as u64) + (n as u64) {

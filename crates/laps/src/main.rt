@@ -5,8 +5,8 @@ use libc::STDOUT_FILENO;
 use refusal::Refusal;
 use scheduler::Answer;
 use scheduler::Batch;
-use scheduler::Choice;
-use scheduler::State;
+use state::Choice;
+use state::State;
 use std::num::wrapping_add_u64;
 
 // Of the ticks run so far.
@@ -121,7 +121,7 @@ fn start(input: &[u8]) {
         refused(refusal);
         return;
     }
-    let made = scheduler::fresh(r.table);
+    let made = state::fresh(r.table);
     write(laps(made.state, field::two(input, stated, 0)));
 }
 

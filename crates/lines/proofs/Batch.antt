@@ -7,8 +7,8 @@ use native.Mathlib.Nat.{add-zero, le-of-suc-le-suc, not-suc-le-zero}
 use native.Mathlib.Decide.{decLe}
 use native.Mathlib.Omega.{arith}
 use lib.ListN.{length, length-append, getD}
-use Rattle.scheduler.specs.declared.Choice.{Choice}
-use Rattle.scheduler.specs.declared.Choice.the-variants.{Idle, Burning, Running}
+use Rattle.state.specs.declared.Choice.{Choice}
+use Rattle.state.specs.declared.Choice.the-variants.{Idle, Burning, Running}
 use Rattle.scheduler.specs.declared.Answer.{Answer}
 use Rattle.lines.specs.Decimal.{decimal}
 use Rattle.lines.specs.Lines.{newline, room, markText, dashText, choiceText, tickLine, answerLines}

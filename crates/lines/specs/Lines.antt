@@ -8,9 +8,9 @@ use Rattle.refusal.specs.Numbers.{bufferShort}
 use Rattle.refusal.specs.Refusal.{Check, check, firstOf}
 use Rattle.field.specs.Write.{written}
 use Rattle.field.specs.declared.Written.{Written}
+use Rattle.state.specs.declared.Choice.{Choice}
+use Rattle.state.specs.declared.Choice.the-variants.{Idle, Burning, Running}
 use Rattle.scheduler.specs.Run.{batchSize}
-use Rattle.scheduler.specs.declared.Choice.{Choice}
-use Rattle.scheduler.specs.declared.Choice.the-variants.{Idle, Burning, Running}
 use Rattle.scheduler.specs.declared.Answer.{Answer}
 use Rattle.lines.specs.Decimal.{decimal}
 use Rattle.lines.specs.declared.Line.{Line}

@@ -3,8 +3,8 @@
 use field::Written;
 use refusal::Refusal;
 use scheduler::Answer;
-use scheduler::Choice;
-use scheduler::State;
+use state::Choice;
+use state::State;
 ghost use mathlib.Core.Path.{_≡_};
 ghost use mathlib.Core.List.{[], _∷_};
 ghost use Prim.Native.Nat.{_+_, _≤_, _<_};
@@ -13,8 +13,8 @@ ghost use lib.ListN.{length};
 ghost use Rattle.field.specs.Field.{over};
 ghost use Rattle.lines.specs.Decimal.{decimal};
 ghost use Rattle.lines.specs.Lines.{space, minus, headerText, markText, choiceText, tickLine, answerLines, lineText, endLine, putOf};
+ghost use Rattle.state.specs.declared.Choice.the-variants.{Idle, Burning, Running};
 ghost use Rattle.scheduler.specs.Run.{batchSize};
-ghost use Rattle.scheduler.specs.declared.Choice.the-variants.{Idle, Burning, Running};
 ghost use Rattle.lines.specs.declared.Line.the-variants.{Nothing, Refused, Lost};
 
 // What a message makes the program write beside its ticks.

@@ -27,14 +27,14 @@ use Rattle.queue.proofs.DueTimes.{there, insert-others, remove-others, clock-ot
 use Rattle.table.specs.Limits.{mostWork}
 use Rattle.setup.specs.Read.{readOf}
 use Rattle.setup.proofs.RoundTrip.{accepted-sound}
-use Rattle.scheduler.specs.Fresh.{freshOf}
+use Rattle.state.specs.Fresh.{freshOf}
+use Rattle.state.proofs.Laws.{fresh-made}
+use Rattle.state.proofs.FreshSizes.{fresh-sized}
 use Rattle.scheduler.specs.Tick.{tickOf}
 use Rattle.scheduler.specs.Arrive.{arriveOf}
 use Rattle.scheduler.proofs.Unchanged.{tick-unchanged, arrive-unchanged}
 use Rattle.scheduler.proofs.Keeps.{tick-sound-accepted}
 use Rattle.scheduler.proofs.TickSound.{tick-accepts}
-use Rattle.scheduler.proofs.Laws.{fresh-made}
-use Rattle.scheduler.proofs.FreshSizes.{fresh-sized}
 use Rattle.scheduler.proofs.KeptSizes.{tick-sized, arrive-sized}
 use Rattle.port.specs.Words.{word, manyIn, cellIn, queueIn, queueWords, tableIn, stateIn, tableWords, stateWords, ByteEvent}
 use Rattle.port.specs.Exports.{heldAfter, heldQueue, heldRest, heldState, heldArrived}

@@ -27,14 +27,15 @@ use Rattle.setup.specs.declared.Reading.{Reading}
 use Rattle.setup.proofs.RoundTrip.{bytes-length, accepted-sound}
 use Rattle.message.specs.declared.Message.{Message}
 use Rattle.message.specs.declared.Message.the-variants.{Run, Arrival}
-use Rattle.scheduler.specs.Sound.{stateb}
-use Rattle.scheduler.specs.Fresh.{freshOf}
+use Rattle.state.specs.Sound.{stateb}
+use Rattle.state.specs.Fresh.{freshOf}
+use Rattle.state.specs.declared.State.{State}
+use Rattle.state.proofs.Keeps.{fresh-sound}
+use Rattle.state.proofs.Laws.{fresh-made}
 use Rattle.scheduler.specs.Tick.{tickOf}
 use Rattle.scheduler.specs.Arrive.{arriveOf}
-use Rattle.scheduler.specs.declared.State.{State}
 use Rattle.scheduler.proofs.Refusals.{arrive-accepted}
-use Rattle.scheduler.proofs.Keeps.{fresh-sound, ticked-sound, arrive-sound, tick-sound-accepted}
-use Rattle.scheduler.proofs.Laws.{fresh-made}
+use Rattle.scheduler.proofs.Keeps.{ticked-sound, arrive-sound, tick-sound-accepted}
 use Rattle.port.specs.Layout.{wordLimit, tableSize}
 use Rattle.port.specs.Words.{word, tableIn, tableWords}
 use Rattle.port.specs.Exports.{heldLength, messageWords}

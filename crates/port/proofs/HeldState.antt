@@ -24,12 +24,12 @@ use Rattle.table.specs.declared.Release.the-variants.{OnArrival, Periodic}
 use Rattle.table.specs.declared.Task.{Task}
 use Rattle.table.specs.declared.Server.{Server}
 use Rattle.table.specs.declared.Table.{Table}
-use Rattle.scheduler.specs.State.{mostPending, mostLost, load}
-use Rattle.scheduler.specs.Sound.{loadb}
-use Rattle.scheduler.specs.Moves.{allOf}
-use Rattle.scheduler.specs.declared.Load.{Load}
-use Rattle.scheduler.specs.declared.Entry.{Entry}
-use Rattle.scheduler.proofs.Stated.{held, within-each}
+use Rattle.state.specs.State.{mostPending, mostLost, load}
+use Rattle.state.specs.Sound.{loadb}
+use Rattle.state.specs.Moves.{allOf}
+use Rattle.state.specs.declared.Load.{Load}
+use Rattle.state.specs.declared.Entry.{Entry}
+use Rattle.state.proofs.Stated.{held, within-each}
 use Rattle.port.specs.Layout.{queueSize, loadSize, entrySize, taskSize, serverSize, tableSize}
 use Rattle.port.specs.Words.{word, manyIn, queueIn, loadIn, entryIn, releaseIn, taskIn, kindIn, serverIn, tableIn, ByteEvent}
 use Rattle.port.specs.Words.{queueWords, loadWords, entryWords, taskWords, serverWords, tableWords}

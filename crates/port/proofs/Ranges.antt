@@ -25,13 +25,13 @@ use Rattle.table.specs.declared.Task.{Task}
 use Rattle.table.specs.declared.Server.{Server}
 use Rattle.table.specs.declared.Table.{Table}
 use Rattle.table.proofs.SoundLaws.{kind-known}
-use Rattle.scheduler.specs.State.{serverAt, entryAt, zeroEntry}
-use Rattle.scheduler.specs.Sound.{taskReaches, serverReaches, loadb, zeroLoadb, entryb, entriesb, stateb}
-use Rattle.scheduler.specs.Meaning.{SizedState}
-use Rattle.scheduler.specs.declared.Load.{Load}
-use Rattle.scheduler.specs.declared.Entry.{Entry}
-use Rattle.scheduler.specs.declared.State.{State}
-use Rattle.scheduler.proofs.Stated.{held, entry-stated, stated}
+use Rattle.state.specs.State.{serverAt, entryAt, zeroEntry}
+use Rattle.state.specs.Sound.{taskReaches, serverReaches, loadb, zeroLoadb, entryb, entriesb, stateb}
+use Rattle.state.specs.Meaning.{SizedState}
+use Rattle.state.specs.declared.Load.{Load}
+use Rattle.state.specs.declared.Entry.{Entry}
+use Rattle.state.specs.declared.State.{State}
+use Rattle.state.proofs.Stated.{held, entry-stated, stated}
 use Rattle.port.specs.Layout.{wordLimit}
 use Rattle.port.proofs.Storing.{sound-few}
 use Rattle.port.proofs.Sizing.{FullEntry, FullServer, FullState, sized-full}

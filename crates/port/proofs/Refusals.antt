@@ -7,9 +7,9 @@ use Prim.Native.Nat.{ℕ, _≤_, _<_}
 use borrow.Author.Tests.{lt-ltb, le-ltb, ltb-true, ltb-false, not-true, not-false}
 use Rattle.refusal.specs.Numbers.{noServer, noTask, unsound}
 use Rattle.refusal.proofs.Exactly.{number-when, none-when, no-place}
-use Rattle.scheduler.specs.State.{serverAt}
-use Rattle.scheduler.specs.Sound.{stateb}
-use Rattle.scheduler.specs.declared.State.{State}
+use Rattle.state.specs.State.{serverAt}
+use Rattle.state.specs.Sound.{stateb}
+use Rattle.state.specs.declared.State.{State}
 use Rattle.port.specs.Exports.{budgetChecks, budgetRefusal, loadChecks, loadRefusal}
 
 -- A BUDGET

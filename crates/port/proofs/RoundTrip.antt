@@ -18,9 +18,9 @@ use Rattle.table.specs.Limits.{mostWork, entries}
 use Rattle.table.specs.Sound.{tableb}
 use Rattle.table.specs.Meaning.{Sized}
 use Rattle.table.specs.declared.Table.{Table}
-use Rattle.scheduler.specs.Sound.{stateb}
-use Rattle.scheduler.specs.Meaning.{SizedState}
-use Rattle.scheduler.specs.declared.State.{State}
+use Rattle.state.specs.Sound.{stateb}
+use Rattle.state.specs.Meaning.{SizedState}
+use Rattle.state.specs.declared.State.{State}
 use Rattle.port.specs.Layout.{queueSize, entrySize, tableSize, stateSize}
 use Rattle.port.specs.Words.{manyIn, queueIn, queueWords, entryIn, tableIn, stateIn, entryWords, tableWords, stateWords, ByteEvent}
 use Rattle.port.proofs.Many.{many-held}

@@ -20,12 +20,12 @@ use Rattle.table.specs.declared.Server.{Server}
 use Rattle.table.specs.declared.Table.{Table}
 use Rattle.table.proofs.Server as server
 use Rattle.table.proofs.Table as table
-use Rattle.scheduler.specs.State.{zeroEntry}
-use Rattle.scheduler.specs.Meaning.{SizedState}
-use Rattle.scheduler.specs.declared.Entry.{Entry}
-use Rattle.scheduler.specs.declared.State.{State}
-use Rattle.scheduler.proofs.Entry as entry
-use Rattle.scheduler.proofs.State as state
+use Rattle.state.specs.State.{zeroEntry}
+use Rattle.state.specs.Meaning.{SizedState}
+use Rattle.state.specs.declared.Entry.{Entry}
+use Rattle.state.specs.declared.State.{State}
+use Rattle.state.proofs.Entry as entry
+use Rattle.state.proofs.State as state
 use Rattle.port.specs.Layout.{queueSize, loadSize, entrySize, taskSize, serverSize, tableSize, stateSize}
 use Rattle.port.specs.Words.{word, manyIn, cellIn, queueIn, loadIn, entryIn, taskIn, serverIn, tableIn, stateIn}
 use Rattle.port.specs.Words.{loadWords, entryWords, taskWords, serverWords, tableWords, stateWords}

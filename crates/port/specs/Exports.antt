@@ -21,16 +21,16 @@ use Rattle.message.specs.declared.Reading.{Reading}
 use Rattle.message.specs.declared.Message.{Message}
 use Rattle.message.specs.declared.Message.the-variants.{Run, Arrival}
 use Rattle.port.specs.Words.{queueWords, loadWords, tableWords, stateWords}
-use Rattle.scheduler.specs.State.{serverAt, entryAt, loadAt}
-use Rattle.scheduler.specs.Sound.{stateb}
-use Rattle.scheduler.specs.Choice.{choiceNumber}
+use Rattle.state.specs.State.{serverAt, entryAt, loadAt}
+use Rattle.state.specs.Sound.{stateb}
+use Rattle.state.specs.Choice.{choiceNumber}
+use Rattle.state.specs.Fresh.{freshOf}
+use Rattle.state.specs.declared.State.{State}
+use Rattle.state.specs.declared.Choice.{Choice}
+use Rattle.state.specs.declared.Choice.the-variants.{Idle, Burning, Running}
 use Rattle.scheduler.specs.Arrive.{arrivalNumber}
-use Rattle.scheduler.specs.Fresh.{freshOf}
-use Rattle.scheduler.specs.declared.State.{State}
 use Rattle.scheduler.specs.declared.Ticked.{Ticked}
 use Rattle.scheduler.specs.declared.Arrived.{Arrived}
-use Rattle.scheduler.specs.declared.Choice.{Choice}
-use Rattle.scheduler.specs.declared.Choice.the-variants.{Idle, Burning, Running}
 
 -- what lent memory holds behind a call: what the call gives, or, where it is refused, what it held
 abbrev pub heldAfter : Refusal → List ℕ → List ℕ → List ℕ

@@ -16,10 +16,10 @@ use Rattle.table.specs.declared.Release.the-variants.{OnArrival, Periodic}
 use Rattle.table.specs.declared.Task.{Task}
 use Rattle.table.specs.declared.Server.{Server}
 use Rattle.table.specs.declared.Table.{Table}
-use Rattle.scheduler.specs.State.{load}
-use Rattle.scheduler.specs.declared.Load.{Load}
-use Rattle.scheduler.specs.declared.Entry.{Entry}
-use Rattle.scheduler.specs.declared.State.{State}
+use Rattle.state.specs.State.{load}
+use Rattle.state.specs.declared.Load.{Load}
+use Rattle.state.specs.declared.Entry.{Entry}
+use Rattle.state.specs.declared.State.{State}
 use Rattle.port.specs.Layout.{queueSize, loadSize, entrySize, taskSize, serverSize, tableSize}
 
 -- the word at a place; 0 past the end

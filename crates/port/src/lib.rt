@@ -7,7 +7,7 @@ use queue::Distance;
 use queue::Queue;
 use refusal::Refusal;
 use scheduler::Arrival;
-use scheduler::Choice;
+use state::Choice;
 use words::QUEUE;
 use words::STATE;
 use words::TABLE;
@@ -24,8 +24,8 @@ ghost use Rattle.setup.specs.Read.{readOf as setupOf};
 ghost use Rattle.setup.specs.Write.{writeRefusal, writtenTo};
 ghost use Rattle.message.specs.Message.{readOf, rawBytes};
 ghost use Rattle.message.specs.Message.{writeRefusal as messageRefusal};
-ghost use Rattle.scheduler.specs.Sound.{stateb};
-ghost use Rattle.scheduler.specs.Choice.{choiceNumber};
+ghost use Rattle.state.specs.Sound.{stateb};
+ghost use Rattle.state.specs.Choice.{choiceNumber};
 ghost use Rattle.scheduler.specs.Arrive.{arrivalNumber, arriveOf};
 ghost use Rattle.scheduler.specs.Tick.{tickOf};
 ghost use Rattle.port.specs.Words.{word, queueIn, queueWords, tableIn, stateIn};
@@ -145,7 +145,7 @@ pub extern "C" fn ribascenzo_fresh(s: &mut [u32; STATE], setup: &[u8]) -> Refusa
     let r = setup::read(setup);
     let refusal = r.refusal;
     if refusal.number == 0 {
-        let m = scheduler::fresh(r.table);
+        let m = state::fresh(r.table);
         words::put_state(s, m.state);
     }
     refusal
@@ -155,7 +155,7 @@ pub extern "C" fn ribascenzo_fresh(s: &mut [u32; STATE], setup: &[u8]) -> Refusa
 pub extern "C" fn ribascenzo_sound(s: &[u32; STATE]) -> bool
     ensures { λ r. ⌜ r ≡ stateb (stateIn (now (s .entry))) ⌝ }
 {
-    scheduler::sound(words::state_in(s))
+    state::sound(words::state_in(s))
 }
 
 #[no_mangle]
@@ -207,7 +207,7 @@ pub extern "C" fn ribascenzo_budget(s: &[u32; STATE], server: u8, budget: &mut [
     ensures budget { λ _. ⌜ now (budget .exit) ≡ heldBudget (stateIn (now (s .entry))) server (now (budget .entry)) ⌝ }
 {
     let state = words::state_in(s);
-    if !scheduler::sound(state) {
+    if !state::sound(state) {
         return Refusal::numbered(Refusal::UNSOUND);
     }
     let table = state.table;
@@ -233,7 +233,7 @@ pub extern "C" fn ribascenzo_load(
     ensures load { λ _. ⌜ now (load .exit) ≡ heldLoad (stateIn (now (s .entry))) server task (now (load .entry)) ⌝ }
 {
     let state = words::state_in(s);
-    if !scheduler::sound(state) {
+    if !state::sound(state) {
         return Refusal::numbered(Refusal::UNSOUND);
     }
     let table = state.table;

@@ -24,9 +24,9 @@ use Rattle.queue.proofs.Keeps.{clock-sound, take-sound, insert-sound}
 use Rattle.queue.proofs.DueTimes.{there, away, clock-others, take-first, take-others, insert-others, insert-new}
 use Rattle.queue.proofs.Room.{room-for-eight}
 use Rattle.table.specs.Limits.{entries}
+use Rattle.state.proofs.Delays.{Delayed}
+use Rattle.state.proofs.HeldEach.{HeldEach, held-reached, held-few, held-rests}
 use Rattle.scheduler.specs.Tick.{clocked, dueIds, dueIn, again, roomyb, turnOf, roomOf}
-use Rattle.scheduler.proofs.Delays.{Delayed}
-use Rattle.scheduler.proofs.HeldEach.{HeldEach, held-reached, held-few, held-rests}
 
 -- THE DUE IDS
 

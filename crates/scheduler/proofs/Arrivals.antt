@@ -16,16 +16,17 @@ use Rattle.queue.specs.Row.{eventsOf}
 use Rattle.queue.specs.Steps.{firstCell, dueStep, tickStep}
 use Rattle.table.specs.Limits.{entries, mostWork}
 use Rattle.table.specs.declared.Server.{Server}
-use Rattle.scheduler.specs.State.{mostPending, taskAt, taskDelay}
-use Rattle.scheduler.specs.Sound.{taskReaches, entryb}
+use Rattle.state.specs.State.{mostPending, taskAt, taskDelay}
+use Rattle.state.specs.Sound.{taskReaches, entryb}
+use Rattle.state.specs.Moves.{pendingBelow}
+use Rattle.state.specs.declared.Load.{Load}
+use Rattle.state.specs.declared.Entry.{Entry}
+use Rattle.state.proofs.Stated.{EntryStated, entry-stated, ServerStated, loads-below, work-below}
+use Rattle.state.proofs.Delays.{task-delayed}
 use Rattle.scheduler.specs.Arrive.{fitsb, loadAfter, withArrival}
 use Rattle.scheduler.specs.Tick.{dueIds, arrivedLoads, served4}
-use Rattle.scheduler.specs.Moves.{pendingBelow, tabledb, Clocked, Arriving, oneArrival, dueTurn, withQueue, servedTurn}
-use Rattle.scheduler.specs.declared.Load.{Load}
-use Rattle.scheduler.specs.declared.Entry.{Entry}
-use Rattle.scheduler.proofs.Stated.{EntryStated, entry-stated, ServerStated, loads-below, work-below}
+use Rattle.scheduler.specs.Moves.{tabledb, Clocked, Arriving, oneArrival, dueTurn, withQueue, servedTurn}
 use Rattle.scheduler.proofs.Turns.{Turned, turned, came-more, none-due, due-few, due-in, turn-is, ticked-turning}
-use Rattle.scheduler.proofs.Delays.{task-delayed}
 
 -- A SERVER OF A SOUND TABLE, in use or not
 

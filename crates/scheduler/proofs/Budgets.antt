@@ -10,9 +10,9 @@ use borrow.Author.Tests.{eqb-true}
 use Rattle.small.specs.Small.{pick, alter}
 use Rattle.small.proofs.Altered.{length-alter, read-altered}
 use Rattle.table.specs.declared.Server.{Server}
-use Rattle.scheduler.specs.State.{zeroEntry, withBudget}
+use Rattle.state.specs.State.{zeroEntry, withBudget}
+use Rattle.state.specs.declared.Entry.{Entry}
 use Rattle.scheduler.specs.Tick.{charge, refilled, served4, eachEntry}
-use Rattle.scheduler.specs.declared.Entry.{Entry}
 use Rattle.scheduler.proofs.AgainLaws.{inb}
 
 -- step 4 for a server's queue leaves its budget

@@ -1,50 +1,28 @@
--- WHAT EVERY CALL KEEPS: a sound state stays sound under a tick, a run of ticks and an arrival, accepted or refused; the fresh state of a sound table is sound; and a
--- tick of a sound state is never refused, as it finds room for every event that is due. No array's length is assumed. Assumes nothing.
-use mathlib.Core.Path.{_≡_, refl}
+-- WHAT EVERY CALL KEEPS: a sound state stays sound under a tick, a run of ticks and an arrival, accepted or refused; and a tick of a sound state is
+-- never refused, as it finds room for every event that is due. No array's length is assumed. Assumes nothing.
+use mathlib.Core.Path.{_≡_}
 use mathlib.Core.Bool.{true}
 use mathlib.Core.Logic.{_↔_, _≢_}
-use Prim.Native.Nat.{ℕ, zero, suc, _-_}
+use Prim.Native.Nat.{ℕ, zero, suc}
 use Rattle.small.proofs.Tests.{contrary}
 use Rattle.refusal.specs.Numbers.{noRoomAgain}
-use Rattle.queue.specs.Limits.{longest}
-use Rattle.table.specs.Limits.{mostWork, entries}
-use Rattle.table.specs.Table.{zeroServer}
-use Rattle.table.specs.Sound.{tableb}
-use Rattle.table.specs.declared.Table.{Table}
-use Rattle.scheduler.specs.State.{serverAt, taskAt, periodAt}
-use Rattle.scheduler.specs.Sound.{serverReaches, entryb, spentb, stateb}
+use Rattle.state.specs.State.{serverAt, taskAt, periodAt}
+use Rattle.state.specs.Sound.{serverReaches, entryb, spentb, stateb}
+use Rattle.state.specs.declared.Entry.{Entry}
+use Rattle.state.specs.declared.State.{State}
+use Rattle.state.proofs.Stated.{paired-one, state-parts, Parts}
+use Rattle.state.proofs.HeldEach.{held-each}
+use Rattle.state.proofs.Delays.{table-every, server-delayed}
 use Rattle.scheduler.specs.Arrive.{withArrival, withLoads, arrivedState, arriveOf}
 use Rattle.scheduler.specs.Moves.{handledEntries}
 use Rattle.scheduler.specs.Tick.{refillsTurn, stateAfter, tickOf}
 use Rattle.scheduler.specs.Run.{stateAfterTicks, ticksIn, runOf}
-use Rattle.scheduler.specs.declared.Entry.{Entry}
-use Rattle.scheduler.specs.declared.State.{State}
-use Rattle.scheduler.specs.Fresh.{serverAway, freshQueue, freshState}
-use Rattle.scheduler.proofs.Stated.{paired-one, state-parts, Parts}
 use Rattle.scheduler.proofs.LapsedEntries.{entries-lapsed, all-spent, arrived-spent}
 use Rattle.scheduler.proofs.Refusals.{tick-30, tick-accepted, arrive-accepted, run-accepted}
 use Rattle.scheduler.proofs.Answers.{run-done}
 use Rattle.scheduler.proofs.Reached.{arrive-either}
-use Rattle.scheduler.proofs.HeldEach.{held-each}
 use Rattle.scheduler.proofs.AgainLaws.{held-again}
-use Rattle.scheduler.proofs.Delays.{table-every, server-delayed}
 use Rattle.scheduler.proofs.TickSound.{entries-served, load-sound, refills-each, tick-room, before-sound, tick-accepts}
-use Rattle.scheduler.proofs.FreshSound.{fresh-held, entries-sound, fresh-spent, refill-near}
-
--- THE FRESH STATE OF A SOUND TABLE IS SOUND
-
-module _ (t : Table) (h : tableb longest mostWork t ≡ true) where
-  pub fresh-sound : stateb (freshState t) ≡ true
-  unfolding freshState
-  fresh-sound =
-      state-parts (freshState t) .1 record {
-        table = h;
-        entries = entries-sound (t .servers) (table-every t h);
-        refills =
-            held-each (serverReaches (t .servers)) (freshQueue serverAway (t .servers)) .1
-            (fresh-held serverAway zeroServer (t .servers) (serverReaches (t .servers)) refl (server-delayed t h) (refill-near t));
-        spent = fresh-spent (t .servers);
-      }
 
 -- A TICK AND AN ARRIVAL
 

@@ -6,17 +6,17 @@ use lib.ListN.{length, getD}
 use Rattle.small.specs.Small.{alter}
 use Rattle.small.proofs.Altered.{alter-keeps, length-alter}
 use Rattle.table.specs.declared.Server.{Server}
-use Rattle.scheduler.specs.State.{zeroEntry, withBudget, serverAt, entryAt, taskAt, fullAt}
-use Rattle.scheduler.specs.Choice.{firstPending, chosenOf}
+use Rattle.state.specs.State.{zeroEntry, withBudget, serverAt, entryAt, taskAt, fullAt}
+use Rattle.state.specs.Choice.{firstPending, chosenOf}
+use Rattle.state.specs.Meaning.{SizedState}
+use Rattle.state.specs.declared.Load.{Load}
+use Rattle.state.specs.declared.Entry.{Entry}
+use Rattle.state.specs.declared.State.{State}
+use Rattle.state.proofs.Lapsing.{lapsed-keeps}
 use Rattle.scheduler.specs.Arrive.{loadAfter, withArrival, withLoads, arriveOf}
 use Rattle.scheduler.specs.Moves.{chargedEntries, handledEntries}
 use Rattle.scheduler.specs.Tick.{lessWork, charge, dueIn, refilled, arrivedLoads, served4, eachEntry, stateAfter}
-use Rattle.scheduler.specs.Meaning.{SizedState}
-use Rattle.scheduler.specs.declared.Load.{Load}
-use Rattle.scheduler.specs.declared.Entry.{Entry}
-use Rattle.scheduler.specs.declared.State.{State}
 use Rattle.scheduler.proofs.LapsedEntries.{lapsed-at, lapsed-length}
-use Rattle.scheduler.proofs.Lapsing.{lapsed-keeps}
 use Rattle.scheduler.proofs.Reached.{arrive-either}
 
 -- how many loads the entry at a place has

@@ -3,7 +3,7 @@
 use mathlib.Core.Path.{_≡_, refl, sym, ap}
 use mathlib.Core.Bool.{Bool, true, false, not}
 use mathlib.Core.List.{List, [], _∷_}
-use Prim.Native.Nat.{ℕ, zero, suc, _+_, _-_, _≤_, _<_}
+use Prim.Native.Nat.{ℕ, zero, suc, _+_, _≤_, _<_}
 use native.Mathlib.Decide.{decLt}
 use native.Mathlib.Omega.{arith}
 use lib.Dec.{eqb}
@@ -18,17 +18,17 @@ use Rattle.table.specs.Table.{zeroServer}
 use Rattle.table.specs.Sound.{tableb}
 use Rattle.table.specs.declared.Server.{Server}
 use Rattle.table.specs.declared.Table.{Table}
-use Rattle.scheduler.specs.State.{load, zeroEntry}
-use Rattle.scheduler.specs.Choice.{pendingb, somePending}
-use Rattle.scheduler.specs.Polling.{pollsb, lapsed}
-use Rattle.scheduler.specs.Sound.{entryb, entriesb, spentb, allSpentb}
+use Rattle.state.specs.State.{load, zeroEntry}
+use Rattle.state.specs.Choice.{pendingb, somePending}
+use Rattle.state.specs.Polling.{pollsb, lapsed}
+use Rattle.state.specs.Sound.{entryb, entriesb, spentb, allSpentb}
+use Rattle.state.specs.declared.Load.{Load}
+use Rattle.state.specs.declared.Entry.{Entry}
+use Rattle.state.proofs.Stated.{table-stated}
+use Rattle.state.proofs.Lapsing.{lapsed-keeps, lapsed-sound, lapsed-spent}
 use Rattle.scheduler.specs.Arrive.{fitsb, lostAfter, loadAfter, withArrival, withLoads}
 use Rattle.scheduler.specs.Tick.{eachEntry}
 use Rattle.scheduler.specs.Moves.{PolledBelow}
-use Rattle.scheduler.specs.declared.Load.{Load}
-use Rattle.scheduler.specs.declared.Entry.{Entry}
-use Rattle.scheduler.proofs.Stated.{table-stated}
-use Rattle.scheduler.proofs.Lapsing.{lapsed-keeps, lapsed-sound, lapsed-spent}
 
 -- ALL ENTRIES
 

@@ -2,26 +2,16 @@
 pub mod Refusals
 pub mod Unchanged
 pub mod OneOutcome
-pub mod Soundness
 pub mod Keeps
 pub mod Laws
 pub mod Points
 -- WHAT ONLY SERVES
-pub mod Stated
-pub mod Delays
-pub mod Lapsing
 pub mod LapsedEntries
-pub mod Sizes
-pub mod Choosing
 pub mod Answers
 pub mod Reached
-pub mod HeldEach
 pub mod AgainLaws
 pub mod Turns
 pub mod TickSound
-pub mod FreshSound
-pub mod FirstReady
-pub mod FreshSizes
 pub mod KeptSizes
 pub mod Budgets
 pub mod TaskLaws
@@ -29,4 +19,3 @@ pub mod Arrivals
 pub mod Refilling
 pub mod TickParts
 pub mod Runs
-pub mod Freshly

@@ -6,12 +6,12 @@ use Rattle.queue.specs.Holds.{holdsb}
 use Rattle.queue.specs.Calls.{insertOf, clockOf, takeOf}
 use Rattle.queue.proofs.Points.{queue-edge}
 use Rattle.table.specs.Sound.{tableb}
-use Rattle.scheduler.specs.Sound.{entryb, stateb}
-use Rattle.scheduler.specs.Choice.{wantsb, chosenOf, choiceOf}
-use Rattle.scheduler.specs.Polling.{lapsed}
+use Rattle.state.specs.Sound.{entryb, stateb}
+use Rattle.state.specs.Choice.{wantsb, chosenOf, choiceOf}
+use Rattle.state.specs.Polling.{lapsed}
+use Rattle.state.specs.Fresh.{freshQueue, freshEntry, freshState, freshOf}
 use Rattle.scheduler.specs.Arrive.{loadAfter, arriveOf}
 use Rattle.scheduler.specs.Tick.{charge, turnOf, roomOf, served4, stateAfter, handledOf, againb, tickOf}
-use Rattle.scheduler.specs.Fresh.{freshQueue, freshEntry, freshState, freshOf}
 use Rattle.scheduler.specs.Edge.{SchedulerEdge}
 use Rattle.scheduler.specs.PollingEdge.{PollingEdge}
 

@@ -10,12 +10,12 @@ use borrow.Author.Tests.{eqb-true, eqb-false}
 use Rattle.small.specs.Small.{alter}
 use Rattle.small.proofs.Altered.{set-alter}
 use Rattle.table.specs.Limits.{mostWork, entries}
-use Rattle.scheduler.specs.State.{mostPending, zeroLoad, serverAt, entryAt, taskAt}
-use Rattle.scheduler.specs.Sound.{stateb}
+use Rattle.state.specs.State.{mostPending, zeroLoad, serverAt, entryAt, taskAt}
+use Rattle.state.specs.Sound.{stateb}
+use Rattle.state.specs.declared.Entry.{Entry}
+use Rattle.state.specs.declared.State.{State}
+use Rattle.state.proofs.Stated.{Eight, stated, entry-stated, server-stated, loads-below, below-at, work-below}
 use Rattle.scheduler.specs.Arrive.{loadAfter, withArrival, withLoads, arrivedState, arriveOf}
-use Rattle.scheduler.specs.declared.Entry.{Entry}
-use Rattle.scheduler.specs.declared.State.{State}
-use Rattle.scheduler.proofs.Stated.{Eight, stated, entry-stated, server-stated, loads-below, below-at, work-below}
 use Rattle.scheduler.proofs.Answers.{arrive-done}
 use Rattle.scheduler.proofs.Unchanged.{arrive-unchanged}
 

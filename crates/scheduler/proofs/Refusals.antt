@@ -9,25 +9,19 @@ use Rattle.small.proofs.Tests.{contrary}
 use Rattle.refusal.specs.Numbers.{noServer, noTask, taskPeriodic, noRoomAgain, unsound}
 use Rattle.refusal.specs.Refusal.{firstOf}
 use Rattle.refusal.proofs.Exactly.{number-when, none-when, no-place}
-use Rattle.queue.specs.Limits.{longest}
-use Rattle.table.specs.Limits.{mostWork}
 use Rattle.table.specs.Table.{releaseNumber}
-use Rattle.table.specs.Sound.{tableb}
 use Rattle.table.specs.declared.Release.{Release}
 use Rattle.table.specs.declared.Release.the-variants.{OnArrival, Periodic}
-use Rattle.table.specs.declared.Table.{Table}
-use Rattle.scheduler.specs.State.{serverAt, taskAt}
-use Rattle.scheduler.specs.Sound.{stateb}
+use Rattle.state.specs.State.{serverAt, taskAt}
+use Rattle.state.specs.Sound.{stateb}
+use Rattle.state.specs.declared.State.{State}
+use Rattle.state.proofs.Answers.{given-number, given-place}
 use Rattle.scheduler.specs.Arrive.{arriveChecks, arriveOf}
 use Rattle.scheduler.specs.Tick.{againb, tickChecks, tickOf}
 use Rattle.scheduler.specs.Run.{runChecks, runOf}
-use Rattle.scheduler.specs.Fresh.{freshChecks, freshOf}
-use Rattle.scheduler.specs.declared.State.{State}
 use Rattle.scheduler.specs.declared.Ticked.{Ticked}
 use Rattle.scheduler.specs.declared.Arrived.{Arrived}
-use Rattle.scheduler.specs.declared.Made.{Made}
 use Rattle.scheduler.specs.declared.Batch.{Batch}
-use Rattle.scheduler.proofs.Answers.{given-number, given-place}
 
 -- TICK
 
@@ -113,26 +107,6 @@ module _ (s : State) (i j : ℕ) where
   pub arrive-place : arriveOf s i j .refusal .place ≡ 0
   unfolding arriveOf
   arrive-place = given-place (λ (a : Arrived). a .refusal) (firstOf (arriveChecks s i j)) _ _ refl refl (no-place (arriveChecks s i j) refl)
-
--- FRESH STATE
-
-module _ (t : Table) where
-  fresh-number : freshOf t .refusal .number ≡ firstOf (freshChecks t) .number
-  unfolding freshOf
-  fresh-number = given-number (λ (m : Made). m .refusal) (firstOf (freshChecks t)) _ _ refl refl
-
-  -- "queue, state or table handed in isn't sound"
-  pub fresh-31 : freshOf t .refusal .number ≡ unsound ↔ (tableb longest mostWork t ≡ false)
-  fresh-31 = number-when _ (freshChecks t) fresh-number 0 refl refl (λ h. not-true _ (h .1)) (λ h. (tt, ap not h))
-
-  -- and no refusal exactly when no test holds
-  pub fresh-accepted : freshOf t .refusal .number ≡ 0 ↔ (tableb longest mostWork t ≡ true)
-  fresh-accepted = none-when _ (freshChecks t) fresh-number refl (λ h. not-false _ (h .0)) (λ h. (ap not h, tt))
-
-  -- "the place (0 where none is named below)"
-  pub fresh-place : freshOf t .refusal .place ≡ 0
-  unfolding freshOf
-  fresh-place = given-place (λ (m : Made). m .refusal) (firstOf (freshChecks t)) _ _ refl refl (no-place (freshChecks t) refl)
 
 -- A RUN OF TICKS
 

@@ -10,12 +10,12 @@ use Rattle.small.proofs.Padded.{padded-push}
 use Rattle.refusal.specs.Refusal.{none}
 use Rattle.queue.specs.declared.Queue.{Queue}
 use Rattle.table.specs.declared.Table.{Table}
-use Rattle.scheduler.specs.Choice.{choiceOf}
+use Rattle.state.specs.Choice.{choiceOf}
+use Rattle.state.specs.declared.Entry.{Entry}
+use Rattle.state.specs.declared.State.{State}
+use Rattle.state.specs.declared.Choice.the-variants.{Idle}
 use Rattle.scheduler.specs.Tick.{stateAfter, handledOf, tickedWith, tickOf}
 use Rattle.scheduler.specs.Run.{batchSize, answer, answersOf, stateAfterTicks}
-use Rattle.scheduler.specs.declared.Entry.{Entry}
-use Rattle.scheduler.specs.declared.State.{State}
-use Rattle.scheduler.specs.declared.Choice.the-variants.{Idle}
 use Rattle.scheduler.specs.declared.Ticked.{Ticked}
 use Rattle.scheduler.specs.declared.Answer.{Answer}
 use Rattle.scheduler.proofs.TickSound.{tick-accepts}

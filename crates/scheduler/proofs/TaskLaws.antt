@@ -22,24 +22,25 @@ use Rattle.queue.proofs.Laws.{clock-events}
 use Rattle.table.specs.Limits.{entries}
 use Rattle.table.specs.Table.{zeroServer}
 use Rattle.table.specs.declared.Server.{Server}
-use Rattle.scheduler.specs.State.{zeroLoad, zeroEntry, withBudget, serverAt, entryAt, taskAt, loadAt, fullAt, taskDelay}
-use Rattle.scheduler.specs.Sound.{taskReaches, entryb, entriesb, stateb}
-use Rattle.scheduler.specs.Choice.{firstPending, chosenOf, choiceOf}
+use Rattle.state.specs.State.{zeroLoad, zeroEntry, withBudget, serverAt, entryAt, taskAt, loadAt, fullAt, taskDelay}
+use Rattle.state.specs.Sound.{taskReaches, entryb, entriesb, stateb}
+use Rattle.state.specs.Choice.{firstPending, chosenOf, choiceOf}
+use Rattle.state.specs.Meaning.{SizedState, runsb}
+use Rattle.state.specs.declared.Load.{Load}
+use Rattle.state.specs.declared.Entry.{Entry}
+use Rattle.state.specs.declared.State.{State}
+use Rattle.state.specs.declared.Choice.the-variants.{Idle, Burning, Running}
+use Rattle.state.proofs.Stated.{Stated, stated, entry-stated, every-server}
+use Rattle.state.proofs.Lapsing.{lapsed-keeps}
+use Rattle.state.proofs.HeldEach.{HeldEach, held-each, held-rests}
+use Rattle.state.proofs.Delays.{task-delayed}
 use Rattle.scheduler.specs.Arrive.{loadAfter}
 use Rattle.scheduler.specs.Moves.{chargedEntries, handledEntries}
 use Rattle.scheduler.specs.Tick.{lessWork, charge, clocked, dueIds, dueIn, refilled, arrivedLoads, served4, eachEntry, dueEvents, stateAfter}
-use Rattle.scheduler.specs.Meaning.{SizedState, runsb, dueNext, allDueNext}
-use Rattle.scheduler.specs.declared.Load.{Load}
-use Rattle.scheduler.specs.declared.Entry.{Entry}
-use Rattle.scheduler.specs.declared.State.{State}
-use Rattle.scheduler.specs.declared.Choice.the-variants.{Idle, Burning, Running}
-use Rattle.scheduler.proofs.Stated.{Stated, stated, entry-stated, every-server}
+use Rattle.scheduler.specs.Meaning.{dueNext, allDueNext}
 use Rattle.scheduler.proofs.LapsedEntries.{lapsed-at}
-use Rattle.scheduler.proofs.Lapsing.{lapsed-keeps}
 use Rattle.scheduler.proofs.KeptSizes.{charge-count, before-length}
-use Rattle.scheduler.proofs.HeldEach.{HeldEach, held-each, held-rests}
 use Rattle.scheduler.proofs.AgainLaws.{inb, ids-in, one-away, Moved, held-moved}
-use Rattle.scheduler.proofs.Delays.{task-delayed}
 
 -- THE DUE ARRIVALS OF ONE SERVER
 

@@ -24,21 +24,21 @@ use Rattle.table.specs.Limits.{entries}
 use Rattle.table.specs.Table.{zeroServer}
 use Rattle.table.specs.declared.Server.{Server}
 use Rattle.table.specs.declared.Table.{Table}
-use Rattle.scheduler.specs.State.{zeroLoad, zeroEntry, withBudget, serverAt, entryAt}
-use Rattle.scheduler.specs.Sound.{entryb, entriesb, stateb}
-use Rattle.scheduler.specs.Choice.{firstPending, readyb, wantsb, chosenOf, choiceBy, choiceOf}
-use Rattle.scheduler.specs.Polling.{lapsed, givesUpb}
+use Rattle.state.specs.State.{zeroLoad, zeroEntry, withBudget, serverAt, entryAt}
+use Rattle.state.specs.Sound.{entryb, entriesb, stateb}
+use Rattle.state.specs.Choice.{firstPending, readyb, wantsb, chosenOf, choiceBy, choiceOf}
+use Rattle.state.specs.Polling.{lapsed, givesUpb}
+use Rattle.state.specs.declared.Entry.{Entry}
+use Rattle.state.specs.declared.State.{State}
+use Rattle.state.proofs.Sizes.{pastEntry}
+use Rattle.state.proofs.Stated.{every-server, entry-stated, held, Eight, paired-from, stated, state-parts}
+use Rattle.state.proofs.Lapsing.{lapsed-same, lapsed-given}
+use Rattle.state.proofs.Choosing.{FirstOf, first-ready, first-pending}
 use Rattle.scheduler.specs.Tick.{charge, refilled, dueIn, dueEvents, served4, eachEntry, stateAfter, handledOf}
 use Rattle.scheduler.specs.Moves.{tabledb, withQueue, servedTurn, PolledBelow, chargedEntries, handledEntries}
-use Rattle.scheduler.specs.declared.Entry.{Entry}
 use Rattle.scheduler.specs.declared.EntryTurn.{EntryTurn}
-use Rattle.scheduler.specs.declared.State.{State}
-use Rattle.scheduler.proofs.Sizes.{pastEntry}
 use Rattle.table.proofs.Sizes.{pastServer}
-use Rattle.scheduler.proofs.Stated.{every-server, entry-stated, held, Eight, paired-from, stated, state-parts}
 use Rattle.scheduler.proofs.LapsedEntries.{lapsed-at, lapsed-length}
-use Rattle.scheduler.proofs.Lapsing.{lapsed-same, lapsed-given}
-use Rattle.scheduler.proofs.Choosing.{FirstOf, first-ready, first-pending}
 use Rattle.scheduler.proofs.Keeps.{tick-sound}
 use Rattle.scheduler.proofs.TickSound.{before-sound}
 use Rattle.scheduler.proofs.KeptSizes.{served-length, before-length, tick-length, tick-loads}

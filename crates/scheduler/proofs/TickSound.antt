@@ -13,23 +13,22 @@ use Rattle.small.proofs.Tests.{both-left, both-right}
 use Rattle.small.proofs.Used.{used-any, used-one}
 use Rattle.refusal.specs.Refusal.{none}
 use Rattle.queue.proofs.DueTimes.{there}
-use Rattle.table.specs.Limits.{entries}
 use Rattle.table.specs.Table.{zeroServer}
 use Rattle.table.specs.declared.Server.{Server}
-use Rattle.scheduler.specs.State.{mostPending, mostLost, load, withBudget, serverAt, taskAt, taskDelay, periodAt, fullAt}
-use Rattle.scheduler.specs.Sound.{taskReaches, serverReaches, loadb, zeroLoadb, entryb, entriesb, stateb}
-use Rattle.scheduler.specs.Choice.{firstPending, chosenOf, choiceOf}
+use Rattle.state.specs.State.{mostPending, mostLost, load, withBudget, serverAt, taskAt, taskDelay, periodAt, fullAt}
+use Rattle.state.specs.Sound.{taskReaches, serverReaches, loadb, zeroLoadb, entryb, entriesb, stateb}
+use Rattle.state.specs.Choice.{firstPending, chosenOf, choiceOf}
+use Rattle.state.specs.declared.Load.{Load}
+use Rattle.state.specs.declared.Entry.{Entry}
+use Rattle.state.specs.declared.State.{State}
+use Rattle.state.proofs.Stated.{EntryStated, entry-stated, ServerStated, Parts, state-parts, paired-one}
+use Rattle.state.proofs.HeldEach.{HeldEach, held-each, held-reached}
+use Rattle.state.proofs.Delays.{task-delayed, Every, table-every, server-delayed}
 use Rattle.scheduler.specs.Arrive.{fitsb, lostAfter, loadAfter, withArrival, withLoads}
 use Rattle.scheduler.specs.Moves.{chargedEntries}
 use Rattle.scheduler.specs.Tick.{lessWork, charge, dueIn, roomOf, refilled, arrivedLoads, arrivalsTurn, served4, eachEntry, allRoomb, stateAfter, handledOf, againb, tickedWith, tickOf}
-use Rattle.scheduler.specs.declared.Load.{Load}
-use Rattle.scheduler.specs.declared.Entry.{Entry}
-use Rattle.scheduler.specs.declared.State.{State}
-use Rattle.scheduler.proofs.Stated.{EntryStated, entry-stated, ServerStated, Parts, state-parts, paired-one}
 use Rattle.scheduler.proofs.Refusals.{tick-accepted}
 use Rattle.scheduler.proofs.Answers.{tick-done}
-use Rattle.scheduler.proofs.HeldEach.{HeldEach, held-each, held-reached}
-use Rattle.scheduler.proofs.Delays.{task-delayed, Every, table-every, server-delayed}
 use Rattle.scheduler.proofs.AgainLaws.{inb, held-accepted, held-again, held-due}
 
 -- LOADS

@@ -26,11 +26,12 @@ use Rattle.queue.proofs.DueTimes.{take-first, take-gone}
 use Rattle.queue.proofs.Room.{room-for-eight}
 use Rattle.queue.proofs.Same.{clock-step, take-step, insert-step}
 use Rattle.table.specs.Limits.{entries}
+use Rattle.state.specs.Moves.{allOf}
+use Rattle.state.proofs.Stated.{held, within-each}
+use Rattle.state.proofs.HeldEach.{HeldEach, held-each, held-few, held-rests}
+use Rattle.state.proofs.Delays.{Delayed}
 use Rattle.scheduler.specs.Tick.{clocked, dueIds, dueIn, putAgain, again, turnOf}
-use Rattle.scheduler.specs.Moves.{requeued, allOf, Turning}
-use Rattle.scheduler.proofs.Stated.{held, within-each}
-use Rattle.scheduler.proofs.HeldEach.{HeldEach, held-each, held-few, held-rests}
-use Rattle.scheduler.proofs.Delays.{Delayed}
+use Rattle.scheduler.specs.Moves.{requeued, Turning}
 use Rattle.scheduler.proofs.AgainLaws.{ids-with, earlier-length}
 
 -- DUE EVENTS

@@ -7,23 +7,17 @@ use mathlib.Core.Logic.{_≢_}
 use Prim.Native.Nat.{ℕ}
 use lib.ListN.{replicate}
 use Rattle.refusal.specs.Refusal.{none, firstOf}
-use Rattle.queue.specs.Row.{queueOf}
-use Rattle.table.specs.Limits.{entries}
-use Rattle.table.specs.declared.Table.{Table}
-use Rattle.scheduler.specs.State.{zeroEntry}
-use Rattle.scheduler.specs.Choice.{choiceOf}
+use Rattle.state.specs.Choice.{choiceOf}
+use Rattle.state.specs.declared.State.{State}
+use Rattle.state.specs.declared.Choice.the-variants.{Idle}
+use Rattle.state.proofs.Answers.{given-kept}
 use Rattle.scheduler.specs.Arrive.{arriveChecks, arrivedWith, arriveOf}
 use Rattle.scheduler.specs.Tick.{stateAfter, handledOf, tickChecks, tickedWith, tickOf}
 use Rattle.scheduler.specs.Run.{batchSize, answer, runChecks, batchWith, runOf}
-use Rattle.scheduler.specs.Fresh.{freshState, emptyState, freshChecks, madeWith, freshOf}
-use Rattle.scheduler.specs.declared.State.{State}
-use Rattle.scheduler.specs.declared.Choice.the-variants.{Idle}
 use Rattle.scheduler.specs.declared.Arrival.the-variants.{Accepted}
 use Rattle.scheduler.specs.declared.Ticked.{Ticked}
 use Rattle.scheduler.specs.declared.Arrived.{Arrived}
-use Rattle.scheduler.specs.declared.Made.{Made}
 use Rattle.scheduler.specs.declared.Batch.{Batch}
-use Rattle.scheduler.proofs.Answers.{given-kept}
 
 -- TICK
 
@@ -46,18 +40,6 @@ module _ (s : State) (i j : ℕ) where
       let r = firstOf (arriveChecks s i j) in
       let e : arriveOf s i j ≡ arrivedWith r Accepted s = given-kept (λ (a : Arrived). a .refusal .number) r _ (arrivedWith r Accepted s) refl h in
       (ap (λ (a : Arrived). a .state) e, ap (λ (a : Arrived). a .arrival) e)
-
--- FRESH STATE
-
-module _ (t : Table) where
-  -- the table as it was, and zero elsewhere
-  pub fresh-unchanged : freshOf t .refusal .number ≢ 0
-      → (freshOf t .state .table ≡ t) × (freshOf t .state .entries ≡ replicate entries zeroEntry) × (freshOf t .state .refills ≡ queueOf [])
-  unfolding freshOf
-  fresh-unchanged h =
-      let r = firstOf (freshChecks t) in
-      let e : freshOf t ≡ madeWith r (emptyState t) = given-kept (λ (m : Made). m .refusal .number) r (madeWith none (freshState t)) (madeWith r (emptyState t)) refl h in
-      (ap (λ (m : Made). m .state .table) e, ap (λ (m : Made). m .state .entries) e, ap (λ (m : Made). m .state .refills) e)
 
 -- A RUN OF TICKS
 

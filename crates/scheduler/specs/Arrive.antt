@@ -8,11 +8,11 @@ use Rattle.refusal.specs.Numbers.{unsound, noServer, noTask, taskPeriodic}
 use Rattle.refusal.specs.Refusal.{none, Check, check, firstOf}
 use Rattle.refusal.specs.declared.Refusal.{Refusal}
 use Rattle.table.specs.Table.{releaseNumber}
-use Rattle.scheduler.specs.State.{mostPending, mostLost, load, serverAt, taskAt, loadAt}
-use Rattle.scheduler.specs.Sound.{stateb}
-use Rattle.scheduler.specs.declared.Load.{Load}
-use Rattle.scheduler.specs.declared.Entry.{Entry}
-use Rattle.scheduler.specs.declared.State.{State}
+use Rattle.state.specs.State.{mostPending, mostLost, load, serverAt, taskAt, loadAt}
+use Rattle.state.specs.Sound.{stateb}
+use Rattle.state.specs.declared.Load.{Load}
+use Rattle.state.specs.declared.Entry.{Entry}
+use Rattle.state.specs.declared.State.{State}
 use Rattle.scheduler.specs.declared.Arrival.{Arrival}
 use Rattle.scheduler.specs.declared.Arrival.the-variants.{Accepted, Lost}
 use Rattle.scheduler.specs.declared.Arrived.{Arrived}

@@ -12,13 +12,13 @@ use Rattle.table.specs.declared.Release.the-variants.{OnArrival, Periodic}
 use Rattle.table.specs.declared.Task.{Task}
 use Rattle.table.specs.declared.Server.{Server}
 use Rattle.table.specs.declared.Table.{Table}
-use Rattle.scheduler.specs.State.{load, zeroLoad, loadAt}
+use Rattle.state.specs.State.{load, zeroLoad, loadAt}
+use Rattle.state.specs.Fresh.{freshOf}
+use Rattle.state.specs.declared.Load.{Load}
+use Rattle.state.specs.declared.State.{State}
+use Rattle.state.specs.declared.Choice.the-variants.{Idle, Burning, Running}
 use Rattle.scheduler.specs.Arrive.{withLoads, withEntries, arriveOf}
 use Rattle.scheduler.specs.Run.{answer, answersOf}
-use Rattle.scheduler.specs.Fresh.{freshOf}
-use Rattle.scheduler.specs.declared.Load.{Load}
-use Rattle.scheduler.specs.declared.State.{State}
-use Rattle.scheduler.specs.declared.Choice.the-variants.{Idle, Burning, Running}
 use Rattle.scheduler.specs.declared.Arrival.the-variants.{Accepted, Lost}
 
 -- a task's release, and the setup of a table: what is not named is zero

@@ -1,12 +1,7 @@
 -- BELIEVED: the definitions that contracts and promises speak of
-pub mod State
-pub mod Choice
-pub mod Polling
-pub mod Sound
 pub mod Arrive
 pub mod Tick
 pub mod Run
-pub mod Fresh
 pub mod Meaning
 pub mod Edge
 pub mod PollingEdge

@@ -1,13 +1,13 @@
 -- What the private functions give. No promise is stated by these: they stand between the code's loops and the definitions.
 use mathlib.Core.Path.{_≡_}
 use mathlib.Core.Bool.{Bool, true, false}
-use mathlib.Core.List.{List, [], _∷_}
+use mathlib.Core.List.{List}
 use Prim.Native.Nat.{ℕ, _≤_, _<_}
 use lib.Dec.{leb, eqb}
 use lib.ListN.{length, getD}
 use Rattle.small.specs.Small.{both, alter}
 use Rattle.queue.specs.Limits.{maxGap, longest}
-use Rattle.queue.specs.Row.{Event, eventsOf}
+use Rattle.queue.specs.Row.{eventsOf}
 use Rattle.queue.specs.Sound.{soundb}
 use Rattle.queue.specs.Steps.{firstCell, dueStep, againStep}
 use Rattle.queue.specs.declared.Queue.{Queue}
@@ -16,34 +16,24 @@ use Rattle.table.specs.Limits.{mostWork, entries}
 use Rattle.table.specs.Table.{zeroServer}
 use Rattle.table.specs.Sound.{tasksb}
 use Rattle.table.specs.declared.Server.{Server}
-use Rattle.scheduler.specs.declared.State.{State}
-use Rattle.scheduler.specs.Choice.{chosenOf}
-use Rattle.scheduler.specs.State.{mostPending, taskAt, taskDelay, fullAt}
+use Rattle.state.specs.Choice.{chosenOf}
+use Rattle.state.specs.State.{taskAt, taskDelay, fullAt}
+use Rattle.state.specs.Moves.{allOf, pendingBelow}
+use Rattle.state.specs.declared.State.{State}
+use Rattle.state.specs.declared.Entry.{Entry}
 use Rattle.scheduler.specs.Arrive.{withArrival}
 use Rattle.scheduler.specs.Tick.{dueIds, dueIn, again, arrivedLoads, served4, charge, refilled, eachEntry}
-use Rattle.scheduler.specs.declared.Load.{Load}
-use Rattle.scheduler.specs.declared.Entry.{Entry}
 use Rattle.scheduler.specs.declared.EntryTurn.{EntryTurn}
 
 -- the first event of a queue, which is due, put in again its delay away
 abbrev pub requeued : (ℕ → ℕ) → Queue → Queue
 requeued delay q = againStep maxGap q (delay (firstCell q .id))
 
--- every event of a list is one of these ids
-abbrev pub allOf : (ℕ → Type 0) → List Event → Type 0
-allOf P [] = Unit
-allOf P (e ∷ es) = P (e .id) × allOf P es
-
 -- a queue whose events can be put in again: sound, of at most 8 events, each of a place whose delay is 1 to the longest distance
 pub record Turning (delay : ℕ → ℕ) (q : Queue) : Type 0 where
   pub sound : soundb maxGap longest q ≡ true
   pub few : length (eventsOf q) ≤ entries
   pub each : allOf (λ (id : ℕ). (id < entries) × ((1 ≤ delay id) × (delay id ≤ longest))) (eventsOf q)
-
--- the loads can take an arrival of every task
-abbrev pub pendingBelow : List Load → Type 0
-pendingBelow [] = Unit
-pendingBelow (l ∷ ls) = (l .pending .0 ≤ mostPending) × pendingBelow ls
 
 -- what holds of every server of a sound table, in use or zero: its period is in range, and its tasks, at most 8; the others are zero
 unfoldable pub tabledb : Server → Bool

@@ -6,16 +6,16 @@ use Prim.Native.Nat.{ℕ, zero, suc}
 use Rattle.small.specs.Small.{alter}
 use Rattle.refusal.specs.Numbers.{unsound}
 use Rattle.table.specs.Kind.{idlingKind, pollingKind}
-use Rattle.scheduler.specs.State.{withBudget}
-use Rattle.scheduler.specs.Sound.{stateb}
+use Rattle.state.specs.State.{withBudget}
+use Rattle.state.specs.Sound.{stateb}
+use Rattle.state.specs.Fresh.{freshOf}
+use Rattle.state.specs.Meaning.{budgetAt}
+use Rattle.state.specs.declared.State.{State}
+use Rattle.state.specs.declared.Choice.the-variants.{Idle, Burning, Running}
 use Rattle.scheduler.specs.Arrive.{withEntries, arriveOf}
 use Rattle.scheduler.specs.Tick.{tickOf}
 use Rattle.scheduler.specs.Run.{answer, answersOf, stateAfterTicks}
-use Rattle.scheduler.specs.Fresh.{freshOf}
-use Rattle.scheduler.specs.Meaning.{budgetAt}
 use Rattle.scheduler.specs.Edge.{onArrival, periodic, server, setup}
-use Rattle.scheduler.specs.declared.State.{State}
-use Rattle.scheduler.specs.declared.Choice.the-variants.{Idle, Burning, Running}
 
 -- server 0's budget behind each of so many ticks
 abbrev pub budgetsOf : ℕ → State → List ℕ

@@ -15,16 +15,16 @@ use Rattle.queue.specs.declared.Queue.{Queue}
 use Rattle.queue.specs.declared.Changed.{Changed}
 use Rattle.table.specs.Table.{served}
 use Rattle.table.specs.declared.Server.{Server}
-use Rattle.scheduler.specs.State.{load, withBudget, taskAt, periodAt, fullAt, taskDelay}
-use Rattle.scheduler.specs.Choice.{firstPending, chosenOf, choiceOf}
-use Rattle.scheduler.specs.Polling.{lapsed}
-use Rattle.scheduler.specs.Sound.{stateb}
+use Rattle.state.specs.State.{load, withBudget, taskAt, periodAt, fullAt, taskDelay}
+use Rattle.state.specs.Choice.{firstPending, chosenOf, choiceOf}
+use Rattle.state.specs.Polling.{lapsed}
+use Rattle.state.specs.Sound.{stateb}
+use Rattle.state.specs.declared.Load.{Load}
+use Rattle.state.specs.declared.Entry.{Entry}
+use Rattle.state.specs.declared.State.{State}
+use Rattle.state.specs.declared.Choice.{Choice}
+use Rattle.state.specs.declared.Choice.the-variants.{Idle}
 use Rattle.scheduler.specs.Arrive.{withArrival}
-use Rattle.scheduler.specs.declared.Load.{Load}
-use Rattle.scheduler.specs.declared.Entry.{Entry}
-use Rattle.scheduler.specs.declared.State.{State}
-use Rattle.scheduler.specs.declared.Choice.{Choice}
-use Rattle.scheduler.specs.declared.Choice.the-variants.{Idle}
 use Rattle.scheduler.specs.declared.Ticked.{Ticked}
 
 -- STEP 3: "The server's budget and the chosen task's work fall by 1."

@@ -4,7 +4,7 @@ use mathlib.Core.Bool.{true, false}
 use Prim.Native.Nat.{_+_}
 use borrow.Author.Needs.{needs}
 use borrow.Author.Tests.{lt-ltb, le-ltb, not-true, not-false}
-use Rattle.scheduler.specs.Sound.{stateb}
+use Rattle.state.specs.Sound.{stateb}
 use Rattle.lines.specs.declared.Line.the-variants.{Nothing}
 use Rattle.desk.specs.Desk.{tickLimit, met, askedOf}
 use Rattle.desk.specs.declared.Desk.{Desk}

@@ -10,9 +10,9 @@ use borrow.Author.Needs.{needs}
 use Rattle.small.specs.Small.{pick}
 use Rattle.refusal.specs.Numbers.{ticksPassed, unsound}
 use Rattle.refusal.specs.Refusal.{refused}
-use Rattle.scheduler.specs.Sound.{stateb}
+use Rattle.state.specs.Sound.{stateb}
+use Rattle.state.specs.declared.State.{State}
 use Rattle.scheduler.specs.Run.{batchSize, batchWith, runOf}
-use Rattle.scheduler.specs.declared.State.{State}
 use Rattle.scheduler.specs.declared.Batch.{Batch}
 use Rattle.scheduler.proofs.Refusals.{run-accepted}
 use Rattle.scheduler.proofs.Answers.{run-done}

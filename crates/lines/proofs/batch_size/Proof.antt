@@ -5,7 +5,7 @@ use native.Mathlib.Numerals.{add-one}
 use native.Mathlib.Omega.{arith}
 use lib.ListN.{length, length-append, getD}
 use borrow.Author.Needs.{needs}
-use Rattle.scheduler.specs.declared.Choice.the-variants.{Idle}
+use Rattle.state.specs.declared.Choice.the-variants.{Idle}
 use Rattle.scheduler.specs.declared.Answer.{Answer}
 use Rattle.lines.specs.Lines.{room, tickLine, answerLines}
 use Rattle.lines.proofs.Batch.{lines-more, tick-length, lines-length}

@@ -2,7 +2,7 @@
 use native.Mathlib.Omega.{arith}
 use lib.ListN.{length-append}
 use borrow.Author.Needs.{needs}
-use Rattle.scheduler.specs.declared.Choice.the-variants.{Idle, Burning, Running}
+use Rattle.state.specs.declared.Choice.the-variants.{Idle, Burning, Running}
 use Rattle.lines.specs.Decimal.{decimal}
 use Rattle.lines.specs.Lines.{choiceText}
 use Rattle.lines.proofs.Batch.{line-length, burning-length, running-length}

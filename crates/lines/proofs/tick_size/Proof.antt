@@ -1,7 +1,7 @@
 -- `lines::tick_size` meets its contract: the lengths of the parts that the match tells of, and no number has more than twenty digits. Assumes nothing.
 use native.Mathlib.Omega.{arith}
 use borrow.Author.Needs.{needs}
-use Rattle.scheduler.specs.declared.Choice.the-variants.{Idle, Burning, Running}
+use Rattle.state.specs.declared.Choice.the-variants.{Idle, Burning, Running}
 use Rattle.lines.proofs.Decimals.{decimal-length}
 use Rattle.lines.proofs.Batch.{line-length, burning-length, running-length}
 use Rattle.lines.proofs.tick_size.Statement.{statement}

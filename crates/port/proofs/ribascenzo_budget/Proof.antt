@@ -7,9 +7,9 @@ use borrow.Author.Needs.{needs}
 use borrow.Author.Tests.{not-false, lt-ltb, le-ltb}
 use Rattle.small.proofs.Lists.{getD-inside}
 use Rattle.table.specs.Limits.{entries}
-use Rattle.scheduler.specs.State.{zeroEntry}
-use Rattle.scheduler.specs.Sound.{stateb}
-use Rattle.scheduler.proofs.Sizes.{pastEntry}
+use Rattle.state.specs.State.{zeroEntry}
+use Rattle.state.specs.Sound.{stateb}
+use Rattle.state.proofs.Sizes.{pastEntry}
 use Rattle.port.proofs.Sizing.{state-in-full}
 use Rattle.port.proofs.Ranges.{table-range, table-of}
 use Rattle.port.proofs.ribascenzo_budget.Statement.{statement}

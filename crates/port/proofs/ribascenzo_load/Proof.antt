@@ -11,10 +11,10 @@ use Rattle.small.proofs.Lists.{getD-inside}
 use Rattle.table.specs.Limits.{entries}
 use Rattle.table.specs.Table.{zeroServer}
 use Rattle.table.proofs.Sizes.{pastServer as pastServer}
-use Rattle.scheduler.specs.State.{zeroEntry, serverAt, entryAt}
-use Rattle.scheduler.specs.Sound.{stateb}
-use Rattle.scheduler.specs.declared.State.{State}
-use Rattle.scheduler.proofs.Sizes.{pastEntry}
+use Rattle.state.specs.State.{zeroEntry, serverAt, entryAt}
+use Rattle.state.specs.Sound.{stateb}
+use Rattle.state.specs.declared.State.{State}
+use Rattle.state.proofs.Sizes.{pastEntry}
 use Rattle.port.proofs.Sizing.{FullState, state-in-full}
 use Rattle.port.proofs.Ranges.{ServerRange, TableRange, table-range, table-of}
 use Rattle.port.proofs.ribascenzo_load.Statement.{statement}

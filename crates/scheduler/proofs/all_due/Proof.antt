@@ -10,12 +10,12 @@ use Rattle.queue.specs.Limits.{maxGap}
 use Rattle.queue.specs.Steps.{againStep}
 use Rattle.table.specs.Limits.{entries}
 use Rattle.table.specs.declared.Server.{Server}
-use Rattle.scheduler.specs.State.{zeroLoad, taskAt, taskDelay}
+use Rattle.state.specs.State.{zeroLoad, taskAt, taskDelay}
+use Rattle.state.specs.declared.Entry.{Entry}
+use Rattle.state.proofs.Stated.{below-at}
 use Rattle.scheduler.specs.Arrive.{loadAfter, withArrival}
 use Rattle.scheduler.specs.Moves.{Clocked, Arriving, oneArrival, dueTurn}
-use Rattle.scheduler.specs.declared.Entry.{Entry}
 use Rattle.scheduler.specs.declared.EntryTurn.{EntryTurn}
-use Rattle.scheduler.proofs.Stated.{below-at}
 use Rattle.scheduler.proofs.Arrivals.{tabled-work, arrival-small, arrival-clocked, arrival-length, arrival-less, arrival-same, arrivals-few, arrivals-none}
 use Rattle.scheduler.proofs.all_due.Statement.{statement}
 use Rattle.scheduler.proofs.all_due.Tie as tie

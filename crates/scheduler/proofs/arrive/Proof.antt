@@ -11,12 +11,12 @@ use lib.ListN.{length, getD, set}
 use Rattle.small.proofs.Lists.{getD-inside}
 use Rattle.table.specs.Limits.{mostWork, entries}
 use Rattle.table.specs.Table.{zeroTask, zeroServer, releaseNumber}
-use Rattle.scheduler.specs.State.{mostPending, zeroLoad, zeroEntry, serverAt, entryAt, taskAt}
-use Rattle.scheduler.specs.Sound.{stateb}
+use Rattle.state.specs.State.{mostPending, zeroLoad, zeroEntry, serverAt, entryAt, taskAt}
+use Rattle.state.specs.Sound.{stateb}
+use Rattle.state.proofs.Stated.{Eight, stated}
+use Rattle.state.proofs.Sizes.{state-eight, state-loads, pastEntry}
 use Rattle.scheduler.specs.Arrive.{withLoads, arrivedState, arriveOf}
 use Rattle.table.proofs.Sizes.{pastServer}
-use Rattle.scheduler.proofs.Stated.{Eight, stated}
-use Rattle.scheduler.proofs.Sizes.{state-eight, state-loads, pastEntry}
 use Rattle.scheduler.proofs.Reached.{Reached, reached, arrival-stored}
 use Rattle.scheduler.proofs.arrive.Statement.{statement}
 use Rattle.scheduler.proofs.arrive.Tie as tie

@@ -1,4 +1,4 @@
--- `scheduler::charged` meets its contract: the first pending task has work to give up (proofs/Choosing.antt), and where there is none no load is altered.
+-- `scheduler::charged` meets its contract: the first pending task has work to give up (proofs/Choosing.antt of `state`), and where there is none no load is altered.
 use mathlib.Core.Path.{_≡_}
 use Prim.Native.Nat.{_<_}
 use native.Mathlib.Omega.{arith}
@@ -7,10 +7,10 @@ use borrow.Author.Tests.{ltb-true}
 use lib.ListN.{length, getD, length-map}
 use Rattle.small.proofs.Altered.{set-alter, alter-past}
 use Rattle.table.specs.Limits.{entries}
-use Rattle.scheduler.specs.State.{zeroLoad}
-use Rattle.scheduler.specs.Choice.{firstPending}
+use Rattle.state.specs.State.{zeroLoad}
+use Rattle.state.specs.Choice.{firstPending}
+use Rattle.state.proofs.Choosing.{first-pending}
 use Rattle.scheduler.specs.Tick.{lessWork, charge}
-use Rattle.scheduler.proofs.Choosing.{first-pending}
 use Rattle.scheduler.proofs.charged.Statement.{statement}
 use Rattle.scheduler.proofs.charged.Tie as tie
 

@@ -12,7 +12,7 @@ use Rattle.table.specs.Kind.{pollingKind}
 use Rattle.table.specs.Limits.{entries}
 use Rattle.table.specs.Table.{zeroServer}
 use Rattle.table.proofs.Sizes.{pastServer}
-use Rattle.scheduler.proofs.Stated.{TableStated, table-stated}
+use Rattle.state.proofs.Stated.{TableStated, table-stated}
 use Rattle.scheduler.proofs.LapsedEntries.{polled-all, polled-none}
 use Rattle.scheduler.proofs.polled_entries.Statement.{statement}
 use Rattle.scheduler.proofs.polled_entries.Tie as tie

@@ -5,10 +5,10 @@ use native.Mathlib.Omega.{arith}
 use borrow.Author.Tests.{not-true, not-false}
 use borrow.Author.Needs.{needs}
 use lib.ListN.{getD}
-use Rattle.scheduler.specs.Sound.{stateb}
+use Rattle.state.specs.Sound.{stateb}
+use Rattle.state.specs.declared.Choice.the-variants.{Idle}
 use Rattle.scheduler.specs.Tick.{tickOf}
 use Rattle.scheduler.specs.Run.{answer}
-use Rattle.scheduler.specs.declared.Choice.the-variants.{Idle}
 use Rattle.scheduler.specs.declared.Ticked.{Ticked}
 use Rattle.scheduler.proofs.TickSound.{tick-accepts}
 use Rattle.scheduler.proofs.tick.Statement.{statement}

@@ -11,12 +11,12 @@ use borrow.Author.Tests.{not-true, not-false}
 use lib.ListN.{set}
 use Rattle.queue.specs.Steps.{dueStep, tickStep}
 use Rattle.table.specs.Limits.{entries}
-use Rattle.scheduler.specs.State.{zeroEntry}
-use Rattle.scheduler.specs.Choice.{chosenOf}
+use Rattle.state.specs.State.{zeroEntry}
+use Rattle.state.specs.Choice.{chosenOf}
+use Rattle.state.specs.declared.State.{State}
+use Rattle.state.proofs.Sizes.{state-eight, state-loads}
+use Rattle.state.proofs.Stated.{state-parts}
 use Rattle.scheduler.specs.Run.{batchSize, answer, stateAfterTicks}
-use Rattle.scheduler.specs.declared.State.{State}
-use Rattle.scheduler.proofs.Sizes.{state-eight, state-loads}
-use Rattle.scheduler.proofs.Stated.{state-parts}
 use Rattle.scheduler.proofs.Refilling.{Refilling, Refilled, leftCount, refill-start, refill-small, refill-less, refill-more, refills-turning, refills-done}
 use Rattle.scheduler.proofs.TickParts.{Serving, serve-start, serve-tabled, serve-sound, serve-few, serve-more, serve-falls, serve-still, Ticking, tick-kept, Charged, chosen-within, chosen-budget, charge-one, charge-none, charged-full, refills-fall, refilled-fitting, tick-state, tick-count, Lapsing, lapse-start, lapse-given, lapse-none}
 use Rattle.scheduler.proofs.Runs.{stateWith, answersIn, state-next, answer-next}

@@ -9,7 +9,7 @@ use Rattle.small.specs.Small.{each}
 use Rattle.small.proofs.Each.{sizes-of}
 use Rattle.field.proofs.Fields.{over-sets, over-length}
 use Rattle.table.specs.Limits.{entries}
-use Rattle.scheduler.specs.State.{zeroLoad}
+use Rattle.state.specs.State.{zeroLoad}
 use Rattle.port.specs.Layout.{loadSize}
 use Rattle.port.specs.Words.{queueWords, loadWords, entryWords}
 use Rattle.port.proofs.Many.{behind, Wrote, wrote-none, wrote-length, wrote-room, wrote-more, wrote-behind}

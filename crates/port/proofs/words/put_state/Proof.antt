@@ -10,12 +10,12 @@ use Rattle.small.specs.Small.{each}
 use Rattle.field.specs.Field.{over}
 use Rattle.field.proofs.Fields.{over-length}
 use Rattle.table.specs.Limits.{entries}
-use Rattle.scheduler.specs.declared.State.{State}
+use Rattle.state.specs.declared.State.{State}
 use Rattle.port.specs.Layout.{queueSize, entrySize, tableSize, stateSize}
 use Rattle.port.specs.Words.{queueWords, entryWords, tableWords, stateWords}
 use Rattle.port.proofs.Many.{behind, Wrote, wrote-none, wrote-room, wrote-more, wrote-behind, over-all}
 use Rattle.port.proofs.Storing.{queue-length}
-use Rattle.scheduler.proofs.Sizes.{pastEntry}
+use Rattle.state.proofs.Sizes.{pastEntry}
 use Rattle.port.proofs.Sizing.{FullState, state-full, table-length, state-length, entries-sizes}
 use Rattle.port.proofs.Ranges.{EntryRange, StateRange, state-range, table-of, queue-few}
 use Rattle.port.proofs.words.put_state.Statement.{statement}

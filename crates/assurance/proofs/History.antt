@@ -10,7 +10,7 @@ use lib.Seq.{drop-cons}
 use Rattle.small.proofs.Lists.{map-drop, map-less}
 use Rattle.queue.specs.Limits.{longest}
 use Rattle.queue.specs.declared.Queue.{Queue}
-use Rattle.queue.proofs.DueTimes.{away}
+use Rattle.queue.specs.Meaning.{away}
 use Rattle.table.specs.Limits.{mostWork}
 use Rattle.table.specs.Sound.{tableb}
 use Rattle.table.specs.Meaning.{Sized}

@@ -9,9 +9,9 @@ use native.Mathlib.Omega.{arith}
 use lib.Dec.{ltb, eqb}
 use lib.ListN.{drop}
 use borrow.Author.Tests.{ltb-false, eqb-true, eqb-false, eq-eqb}
-use Rattle.small.specs.Small.{pick}
+use Rattle.small.specs.Small.{pick, All}
 use Rattle.small.proofs.Tests.{either-true, contrary}
-use Rattle.small.proofs.All.{All, all-first, all-append}
+use Rattle.small.proofs.All.{all-first, all-append}
 use Rattle.refusal.specs.declared.Refusal.{Refusal}
 use Rattle.queue.specs.Limits.{cellCount, filler, maxGap, longest}
 use Rattle.queue.specs.Row.{Event, event, cell, cellsOf, queueOf, eventAt, eventsFrom, eventsOf}
@@ -23,7 +23,8 @@ use Rattle.queue.proofs.SoundLaws.{empty-events}
 use Rattle.queue.proofs.Refusals.{remove-accepted}
 use Rattle.queue.proofs.Unchanged.{insert-unchanged, remove-unchanged, clock-unchanged, take-unchanged, push-back-unchanged}
 use Rattle.queue.proofs.Keeps.{empty-sound}
-use Rattle.queue.proofs.DueTimes.{there, insert-others, remove-others, clock-others, take-first, take-others, push-back-others}
+use Rattle.queue.specs.Meaning.{there}
+use Rattle.queue.proofs.DueTimes.{insert-others, remove-others, clock-others, take-first, take-others, push-back-others}
 use Rattle.table.specs.Limits.{mostWork}
 use Rattle.setup.specs.Read.{readOf}
 use Rattle.setup.proofs.RoundTrip.{accepted-sound}

@@ -8,9 +8,9 @@ use native.Mathlib.Omega.{arith}
 use lib.Dec.{leb, ltb, eqb}
 use lib.ListN.{length, take}
 use borrow.Author.Tests.{le-ltb, leb-true, eqb-true, eq-eqb}
-use Rattle.small.specs.Small.{pick, each}
+use Rattle.small.specs.Small.{pick, each, All}
 use Rattle.small.proofs.Tests.{both-left, both-right}
-use Rattle.small.proofs.All.{All, all-both, all-append, all-replicate}
+use Rattle.small.proofs.All.{all-both, all-append, all-replicate}
 use Rattle.queue.specs.Limits.{cellCount, filler, maxGap, longest}
 use Rattle.queue.specs.Row.{Event, event, cell, cellsOf, eventsFrom, eventsOf}
 use Rattle.queue.specs.Sound.{soundb}

@@ -9,9 +9,8 @@ use lib.Dec.{leb, ltb, eqb}
 use lib.ListN.{length, take, drop, getD, length-drop}
 use lib.Seq.{take-add, drop-at, drop-drop}
 use borrow.Author.Tests.{le-ltb, leb-true, eqb-true}
-use Rattle.small.specs.Small.{pick, both, each}
+use Rattle.small.specs.Small.{pick, both, each, All}
 use Rattle.small.proofs.Tests.{both-left, both-right, contrary}
-use Rattle.small.proofs.All.{All}
 use Rattle.queue.specs.Limits.{maxGap, longest}
 use Rattle.queue.specs.Row.{Event, eventsOf}
 use Rattle.queue.specs.declared.Queue.{Queue}

@@ -8,8 +8,8 @@ use native.Mathlib.Numerals.{add-one}
 use native.Mathlib.Omega.{arith}
 use lib.ListN.{length, take, drop, getD, set, replicate, length-drop, length-set, length-replicate}
 use lib.Seq.{take-all, take-add, take-suc-set, drop-at, drop-length, drop-drop, getD-drop, length-take-le}
-use Rattle.small.proofs.All.{All, all-at, all-first}
-use Rattle.small.specs.Small.{each}
+use Rattle.small.proofs.All.{all-at, all-first}
+use Rattle.small.specs.Small.{each, All}
 use Rattle.small.proofs.Each.{Sizes, each-more, each-length}
 use Rattle.field.specs.Field.{over}
 use Rattle.field.proofs.Fields.{over-over, over-length, over-nil, over-start}

@@ -10,7 +10,8 @@ use lib.ListN.{length, getD}
 use lib.Seq.{take-length}
 use borrow.Author.Tests.{leb-true, eqb-true}
 use Rattle.small.proofs.Tests.{both-left, both-right}
-use Rattle.small.proofs.All.{All, all-take}
+use Rattle.small.specs.Small.{All}
+use Rattle.small.proofs.All.{all-take}
 use Rattle.small.proofs.Used.{used-all}
 use Rattle.queue.specs.Limits.{cellCount, maxGap, longest}
 use Rattle.queue.specs.Sound.{soundb}

@@ -7,8 +7,7 @@ use Prim.Native.Nat.{ℕ, _+_, _-_, _*_}
 use native.Mathlib.Omega.{arith}
 use lib.ListN.{length, take, drop, length-drop}
 use lib.Seq.{take-all, take-add, drop-at, drop-drop}
-use Rattle.small.specs.Small.{each}
-use Rattle.small.proofs.All.{All}
+use Rattle.small.specs.Small.{each, All}
 use Rattle.queue.specs.Limits.{maxGap, longest}
 use Rattle.queue.specs.Row.{eventsOf}
 use Rattle.queue.specs.Sound.{soundb}

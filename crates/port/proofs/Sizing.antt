@@ -9,8 +9,8 @@ use mir.Val.{Val}
 use denote.Array.{each as owned}
 use denote.Shadow.{shadow}
 use denote.Struct.Declared.{row}
-use Rattle.small.proofs.All.{All, all-take, all-at}
-use Rattle.small.specs.Small.{each}
+use Rattle.small.proofs.All.{all-take, all-at}
+use Rattle.small.specs.Small.{each, All}
 use Rattle.small.proofs.Each.{Sizes, sizes-of, each-length}
 use Rattle.queue.specs.Limits.{cellCount}
 use Rattle.table.specs.Limits.{entries}

@@ -2,7 +2,7 @@
 -- between, and events due at the same time stand in the order in which they were put in. M is the largest gap and D the longest distance. Assumes nothing.
 use mathlib.Core.Path.{_≡_, refl, sym, ap, _∙_}
 use mathlib.Core.Bool.{Bool, true, false, not}
-use mathlib.Core.List.{List, [], _∷_, _++_}
+use mathlib.Core.List.{List, [], _∷_}
 use mathlib.Core.Logic.{_≢_}
 use Prim.Native.Nat.{ℕ, _+_, _≤_, _<_}
 use native.Mathlib.Omega.{arith}
@@ -17,37 +17,13 @@ use Rattle.queue.specs.Calls.{withEvent, distanceOf}
 use Rattle.queue.specs.Calls.{findChecks}
 use Rattle.queue.specs.Calls.{insertOf, removeOf, timeLeftOf, clockOf, takeOf, pushBackOf}
 use Rattle.queue.specs.declared.Queue.{Queue}
-use Rattle.queue.proofs.Normal.{sorted, sorted-events}
+use Rattle.queue.specs.Meaning.{sorted, there, away, allBeyond, PutIn}
+use Rattle.queue.proofs.Normal.{sorted-events}
 use Rattle.queue.proofs.SoundLaws.{sound-is}
 use Rattle.queue.proofs.Events.{with-has, with-distance, with-new, without-has, without-distance, without-gone, earlier-has, earlier-distance, later-has, later-distance, due-first}
 use Rattle.queue.proofs.Refusals.{insert-accepted, remove-accepted, clock-accepted, take-accepted}
 use Rattle.queue.proofs.Answers.{left-next}
 use Rattle.queue.proofs.Laws.{insert-events, remove-events, clock-events, take-id, take-events, push-back-events}
-
--- an event with the id j is there, and how far away it is
-abbrev pub there : ℕ → Queue → Bool
-there j q = hasb j (eventsOf q)
-
-abbrev pub away : ℕ → Queue → ℕ
-away j q = distanceOf j (eventsOf q)
-
--- every event of a list is at most d away; every one is further
-abbrev pub allWithin : ℕ → List Event → Type 0
-allWithin d [] = Unit
-allWithin d (e ∷ es) = (e .at ≤ d) × allWithin d es
-
-abbrev pub allBeyond : ℕ → List Event → Type 0
-allBeyond d [] = Unit
-allBeyond d (e ∷ es) = (d < e .at) × allBeyond d es
-
--- an event is put in "behind all that are due at the same time", and before all that are due later
-pub record PutIn (x : Event) (es next : List Event) : Type 0 where
-  pub before : List Event
-  pub behind : List Event
-  pub old : es ≡ before ++ behind
-  pub new : next ≡ before ++ (x ∷ behind)
-  pub within : allWithin (x .at) before
-  pub beyond : allBeyond (x .at) behind
 
 sorted-beyond : (d t : ℕ) (es : List Event) → d < t → sorted t es → allBeyond d es
 sorted-beyond d t [] h s = tt

@@ -13,7 +13,8 @@ use Rattle.queue.specs.Limits.{filler}
 use Rattle.queue.specs.Row.{Event, event, cellsFor, normal}
 use Rattle.queue.specs.Sound.{hasb, distinctb, nearb}
 use Rattle.queue.specs.Calls.{withEvent, withoutEvent, distanceOf, dueb, earlier, dueId, withoutDue, later, farb}
-use Rattle.queue.proofs.Normal.{sorted, proper, sorted-from, cells-count, fillers-grow, joined-fewer}
+use Rattle.queue.specs.Meaning.{sorted}
+use Rattle.queue.proofs.Normal.{proper, sorted-from, cells-count, fillers-grow, joined-fewer}
 
 -- no event has the id of a filler
 pub no-filler : (es : List Event) → proper es → hasb filler es ≡ false

@@ -9,6 +9,7 @@ use native.Mathlib.Nat.{div-eq-of-lt, add-div-right}
 use lib.Dec.{eqb}
 use lib.ListN.{length, length-append}
 use Rattle.small.specs.Small.{pick}
+use Rattle.queue.specs.Meaning.{fits}
 use Rattle.queue.specs.Limits.{filler}
 use Rattle.queue.specs.Row.{event, cellsOf, eventsOf, eventsFrom, normal}
 use Rattle.queue.specs.Sound.{soundb}
@@ -17,11 +18,6 @@ use Rattle.queue.specs.declared.Queue.{Queue}
 use Rattle.queue.proofs.Cells.{made-len}
 use Rattle.queue.proofs.Normal.{cells-count, fillers-grow}
 use Rattle.queue.proofs.SoundLaws.{sound-is}
-
--- every gap of a row is at most M
-abbrev pub fits : ℕ → List Cell → Type 0
-fits M [] = Unit
-fits M (c ∷ cs) = (c .gap ≤ M) × fits M cs
 
 -- how many cells a way of x ticks needs
 abbrev ceil : ℕ → ℕ → ℕ

@@ -19,7 +19,8 @@ use Rattle.queue.specs.Calls.{insertChecks, findChecks, clockChecks, tak
 use Rattle.queue.specs.Calls.{insertOf, removeOf, clockOf, takeOf, pushBackOf}
 use Rattle.queue.specs.declared.Queue.{Queue}
 use Rattle.queue.proofs.Cells.{made-len}
-use Rattle.queue.proofs.Normal.{sorted, proper, sorted-from, sorted-events, proper-events}
+use Rattle.queue.specs.Meaning.{sorted}
+use Rattle.queue.proofs.Normal.{proper, sorted-from, sorted-events, proper-events}
 use Rattle.queue.proofs.SoundLaws.{Sound, sound-is, sound-made, events-made}
 use Rattle.queue.proofs.Events.{with-sorted, with-proper, with-near, with-distinct, without-sorted, without-proper, without-near, without-distinct, without-fewer}
 use Rattle.queue.proofs.Events.{earlier-sorted, earlier-proper, earlier-near, earlier-distinct, earlier-fewer, later-sorted, later-proper, later-near, later-distinct, due-first}

@@ -9,14 +9,10 @@ use lib.Dec.{eqb}
 use lib.Arith.{digits-div}
 use lib.ListN.{length, length-append}
 use Rattle.small.specs.Small.{pick}
+use Rattle.queue.specs.Meaning.{sorted}
 use Rattle.queue.specs.Limits.{filler}
 use Rattle.queue.specs.Row.{Event, event, cell, eventsFrom, chain, cellsFor, normal}
 use Rattle.queue.specs.declared.Cell.{Cell}
-
--- distances that do not fall, counted from t
-abbrev pub sorted : ℕ → List Event → Type 0
-sorted t [] = Unit
-sorted t (e ∷ es) = (t ≤ e .at) × sorted (e .at) es
 
 -- no event is a filler
 abbrev pub proper : List Event → Type 0

@@ -24,7 +24,8 @@ use Rattle.queue.specs.declared.Cell.{Cell}
 use Rattle.queue.specs.declared.Queue.{Queue}
 use Rattle.queue.specs.declared.Next.{Next}
 use Rattle.queue.proofs.Cells.{made-len, made-past, cells-length, cells-step, cells-end}
-use Rattle.queue.proofs.Normal.{sorted, proper, sorted-events, proper-events}
+use Rattle.queue.specs.Meaning.{sorted}
+use Rattle.queue.proofs.Normal.{proper, sorted-events, proper-events}
 use Rattle.queue.proofs.SoundLaws.{Sound, sound-cells}
 use Rattle.queue.proofs.Events.{with-more, without-fewer}
 use Rattle.queue.proofs.Moving.{chain-cells}

@@ -11,8 +11,9 @@ use borrow.Author.Tests.{eq-eqb, ne-eqb, eqb-true, eqb-false, lt-ltb, le-ltb, lt
 use Rattle.refusal.specs.Numbers.{idOfFiller, idThere, delayTooLong, noRoom, noSuchEvent, eventDue, nothingDue, atLongest, unsound}
 use Rattle.refusal.specs.Refusal.{Check, check, firstOf}
 use Rattle.refusal.proofs.Exactly.{number-when, none-when, no-place}
+use Rattle.queue.specs.Meaning.{cellsNeeded}
 use Rattle.queue.specs.Limits.{cellCount, filler}
-use Rattle.queue.specs.Row.{Event, event, cellsOf, eventsOf, normal}
+use Rattle.queue.specs.Row.{event, cellsOf, eventsOf}
 use Rattle.queue.specs.Sound.{soundb, hasb}
 use Rattle.queue.specs.Calls.{withEvent, later, dueb, farb}
 use Rattle.queue.specs.Calls.{insertChecks, findChecks, clockChecks, takeChecks, pushChecks}
@@ -22,10 +23,6 @@ use Rattle.queue.specs.declared.Queue.{Queue}
 use Rattle.queue.proofs.Normal.{proper-events}
 use Rattle.queue.proofs.Events.{no-filler}
 use Rattle.queue.proofs.Answers.{changed-decided, taken-decided, left-decided}
-
--- how many cells the normal form of events needs
-abbrev pub cellsNeeded : ℕ → List Event → ℕ
-cellsNeeded M es = length (normal M 0 es)
 
 -- no event has the id of a filler
 filler-absent : (q : Queue) → hasb filler (eventsOf q) ≡ false

@@ -15,7 +15,8 @@ use Rattle.queue.specs.Row.{Event, event, cellsOf, eventsOf, normal}
 use Rattle.queue.specs.Sound.{nearb, soundb}
 use Rattle.queue.specs.Calls.{withEvent, dueb, insertOf, takeOf}
 use Rattle.queue.specs.declared.Queue.{Queue}
-use Rattle.queue.proofs.Normal.{sorted, proper, sorted-events, proper-events, cells-count}
+use Rattle.queue.specs.Meaning.{sorted}
+use Rattle.queue.proofs.Normal.{proper, sorted-events, proper-events, cells-count}
 use Rattle.queue.proofs.SoundLaws.{sound-is}
 use Rattle.queue.proofs.Events.{with-length, with-sorted, with-near}
 use Rattle.queue.proofs.Refusals.{insert-accepted, take-accepted}

@@ -14,7 +14,8 @@ use Rattle.queue.specs.Row.{Event, cell, cellsOf, queueOf, eventsOf, eve
 use Rattle.queue.specs.Sound.{sameb, distinctb, nearb, soundb}
 use Rattle.queue.specs.declared.Queue.{Queue}
 use Rattle.queue.proofs.Cells.{cellsOf-queueOf, made-cells, made-len, made-row, made-again}
-use Rattle.queue.proofs.Normal.{sorted, proper, round-trip}
+use Rattle.queue.specs.Meaning.{sorted}
+use Rattle.queue.proofs.Normal.{proper, round-trip}
 use Rattle.queue.proofs.Form.{same-cells, same-self}
 
 pub same-queue : (q p : Queue) → sameb q p ≡ true → q ≡ p

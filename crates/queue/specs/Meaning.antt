@@ -1,13 +1,17 @@
 -- "A queue alone is sound if it is in normal form, its events' ids differ, no distance is above 1,000,000, and cells past the last are zero": the document's
 -- words, cell by cell. M is the largest gap and D the longest distance. `queue-sound` (proofs/Soundness.antt) says that the test `soundb` holds exactly of the
 -- queues that are sound in these words.
+use mathlib.Core.Bool.{Bool}
 use mathlib.Core.Path.{_≡_}
 use mathlib.Core.Logic.{_≢_}
-use mathlib.Core.List.{List, [], _∷_, flatten}
+use mathlib.Core.List.{List, [], _∷_, flatten, _++_}
 use Prim.Native.Nat.{ℕ, _-_, _*_, _≤_, _<_}
 use lib.ListN.{length, getD}
+use Rattle.small.specs.Small.{All}
+use Rattle.queue.specs.Calls.{distanceOf}
+use Rattle.queue.specs.Sound.{hasb}
 use Rattle.queue.specs.Limits.{cellCount}
-use Rattle.queue.specs.Row.{event, cell, cellsOf, eventsFrom, eventsOf}
+use Rattle.queue.specs.Row.{event, cell, cellsOf, eventsFrom, eventsOf, Event, normal}
 use Rattle.queue.specs.declared.Cell.{Cell}
 use Rattle.queue.specs.declared.Queue.{Queue}
 
@@ -42,3 +46,41 @@ pub record SoundQueue (M D : ℕ) (q : Queue) : Type 0 where
   pub near : (i : ℕ) → i < length (eventsOf q) → getD (eventsOf q) i (event 0 0) .at ≤ D
   -- "cells past the last are zero"
   pub past : (i : ℕ) → q .len ≤ i → i < cellCount → getD (q .cells) i (cell 0 0) ≡ cell 0 0
+
+-- WHAT THE LAWS OF THE CALLS SPEAK OF
+
+-- an event with the id j is there, and how far away it is
+abbrev pub there : ℕ → Queue → Bool
+there j q = hasb j (eventsOf q)
+
+abbrev pub away : ℕ → Queue → ℕ
+away j q = distanceOf j (eventsOf q)
+
+-- every event of a list is at most d away; every one is further
+abbrev pub allWithin : ℕ → List Event → Type 0
+allWithin d es = All (λ e. e .at ≤ d) es
+
+abbrev pub allBeyond : ℕ → List Event → Type 0
+allBeyond d es = All (λ e. d < e .at) es
+
+-- an event is put in "behind all that are due at the same time", and before all that are due later
+pub record PutIn (x : Event) (es next : List Event) : Type 0 where
+  pub before : List Event
+  pub behind : List Event
+  pub old : es ≡ before ++ behind
+  pub new : next ≡ before ++ (x ∷ behind)
+  pub within : allWithin (x .at) before
+  pub beyond : allBeyond (x .at) behind
+
+-- distances that do not fall, counted from t
+abbrev pub sorted : ℕ → List Event → Type 0
+sorted t [] = Unit
+sorted t (e ∷ es) = (t ≤ e .at) × sorted (e .at) es
+
+-- every gap of a row is at most M
+abbrev pub fits : ℕ → List Cell → Type 0
+fits M cs = All (λ c. c .gap ≤ M) cs
+
+-- how many cells the normal form of events needs
+abbrev pub cellsNeeded : ℕ → List Event → ℕ
+cellsNeeded M es = length (normal M 0 es)

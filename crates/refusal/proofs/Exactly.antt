@@ -9,13 +9,8 @@ use lib.ListN.{getD, take, drop}
 use borrow.Author.Tests.{eqb-true, eqb-false, ne-eqb, not-true}
 use Rattle.small.specs.Small.{pick, both}
 use Rattle.small.proofs.Tests.{both-left, both-right, contrary}
-use Rattle.refusal.specs.Refusal.{Check, check, firstOf}
+use Rattle.refusal.specs.Refusal.{Check, check, firstOf, Passed, First}
 use Rattle.refusal.specs.declared.Refusal.{Refusal}
-
--- none of the tests holds
-abbrev pub Passed : List Check → Type 0
-Passed [] = Unit
-Passed (c ∷ cs) = (c .holds ≡ false) × Passed cs
 
 -- no check has the number, which is not 0
 abbrev pub Other : ℕ → List Check → Type 0
@@ -86,13 +81,6 @@ neither-refuses xs ys o e = go (eqb (firstOf xs .number) 0) refl (rw (first-appe
     go : (b : Bool) → eqb (firstOf xs .number) 0 ≡ b → pick b (firstOf ys) (firstOf xs) .number ≡ 0 → (firstOf xs .number ≡ 0) × (firstOf ys .number ≡ 0)
     go true p f = (eqb-true (firstOf xs .number) 0 p, f)
     go false p f = absurd (eqb-false (firstOf xs .number) 0 p f)
-
--- a check of the list that holds, and none before it
-pub record First (r : Refusal) (cs : List Check) : Type 0 where
-  pub before : List Check
-  pub after : List Check
-  pub here : cs ≡ before ++ (record { refusal = r; holds = true } ∷ after)
-  pub passed : Passed before
 
 first-from : (r : Refusal) (cs : List Check) → (r .number ≡ 0 → ⊥) → firstOf cs ≡ r → First r cs
 first-from r [] n e = absurd (n (sym (ap (λ (x : Refusal). x .number) e)))

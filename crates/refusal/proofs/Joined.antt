@@ -8,9 +8,9 @@ use native.Mathlib.Omega.{arith}
 use lib.ListN.{take, drop}
 use Rattle.small.specs.Small.{pick}
 use Rattle.small.proofs.Tests.{contrary}
-use Rattle.refusal.specs.Refusal.{refused, none, Check, firstOf}
+use Rattle.refusal.specs.Refusal.{refused, none, Check, firstOf, Passed}
 use Rattle.refusal.specs.declared.Refusal.{Refusal}
-use Rattle.refusal.proofs.Exactly.{Passed, Numbered, Other, exactly, given-by, theCheck, otherb, other, at-place}
+use Rattle.refusal.proofs.Exactly.{Numbered, Other, exactly, given-by, theCheck, otherb, other, at-place}
 
 pub passed-join : (xs ys : List Check) → Passed xs → Passed ys → Passed (xs ++ ys)
 passed-join [] ys p q = q

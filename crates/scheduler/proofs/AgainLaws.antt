@@ -21,7 +21,8 @@ use Rattle.queue.proofs.Events.{with-length}
 use Rattle.queue.proofs.Refusals.{clock-accepted, take-accepted}
 use Rattle.queue.proofs.Laws.{clock-events, insert-events}
 use Rattle.queue.proofs.Keeps.{clock-sound, take-sound, insert-sound}
-use Rattle.queue.proofs.DueTimes.{there, away, clock-others, take-first, take-others, insert-others, insert-new}
+use Rattle.queue.specs.Meaning.{there, away}
+use Rattle.queue.proofs.DueTimes.{clock-others, take-first, take-others, insert-others, insert-new}
 use Rattle.queue.proofs.Room.{room-for-eight}
 use Rattle.table.specs.Limits.{entries}
 use Rattle.state.proofs.Delays.{Delayed}

@@ -12,7 +12,7 @@ use borrow.Author.Tests.{eq-eqb, ne-eqb, leb-true, leb-false, le-leb, lt-leb}
 use Rattle.small.specs.Small.{pick, alter, both}
 use Rattle.small.proofs.Tests.{contrary}
 use Rattle.small.proofs.Altered.{length-alter, read-altered, alter-keeps}
-use Rattle.queue.proofs.DueTimes.{there}
+use Rattle.queue.specs.Meaning.{there}
 use Rattle.queue.specs.Limits.{longest, maxGap}
 use Rattle.queue.specs.Row.{eventsOf}
 use Rattle.queue.specs.Sound.{soundb}
@@ -36,7 +36,7 @@ use Rattle.state.proofs.Laws.{chosen-first, serves-chosen}
 use Rattle.scheduler.specs.Arrive.{withArrival, withLoads, arriveOf, arrivalBy, arrivalNumber, lostAfter, loadAfter}
 use Rattle.scheduler.specs.Moves.{chargedEntries, handledEntries}
 use Rattle.scheduler.specs.Tick.{charge, dueIn, served4, stateAfter, tickOf, lessWork, clocked, handledOf}
-use Rattle.scheduler.specs.Meaning.{Spent, Filled, dueNext}
+use Rattle.scheduler.specs.Meaning.{Spent, Filled, dueNext, arrives}
 use Rattle.scheduler.specs.Meaning.{allDueNext}
 use Rattle.scheduler.proofs.LapsedEntries.{lapsed-at, pending-kept}
 use Rattle.scheduler.proofs.Reached.{arrive-either}
@@ -150,13 +150,9 @@ module _ (s : State) (z : SizedState s) (h : stateb s ≡ true) (i : ℕ) (l : i
   tick-arrival = turned s z h i l .moved
 
   module _ (j : ℕ) (m : j < entries) where
-    -- the task's arrival is due in the tick
-    abbrev pub arrives : Bool
-    arrives = both (arrivalThere s i j) (eqb (arrivalAway s i j) 1)
-
     -- "The server's budget and the chosen task's work fall by 1." "Then due task arrivals, by server rank, add E": or it is lost (`load-lost`)
     pub tick-load : let l = pick (runsb (choiceOf s) i j) (lessWork (loadAt s i j)) (loadAt s i j) in
-        loadAt (stateAfter s) i j ≡ pick arrives (loadAfter (taskAt (serverAt s i) j .work .0) l) l
+        loadAt (stateAfter s) i j ≡ pick (arrives s i j) (loadAfter (taskAt (serverAt s i) j .work .0) l) l
     unfolding served4
     tick-load =
         let q = entryAt s i .arrivals in

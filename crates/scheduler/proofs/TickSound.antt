@@ -12,7 +12,7 @@ use Rattle.small.specs.Small.{pick, usedb}
 use Rattle.small.proofs.Tests.{both-left, both-right}
 use Rattle.small.proofs.Used.{used-any, used-one}
 use Rattle.refusal.specs.Refusal.{none}
-use Rattle.queue.proofs.DueTimes.{there}
+use Rattle.queue.specs.Meaning.{there}
 use Rattle.table.specs.Table.{zeroServer}
 use Rattle.table.specs.declared.Server.{Server}
 use Rattle.state.specs.State.{mostPending, mostLost, load, withBudget, serverAt, taskAt, taskDelay, periodAt, fullAt}

@@ -10,13 +10,13 @@ use lib.Dec.{ltb}
 use lib.ListN.{length, take, drop, getD, length-drop, take-append-drop}
 use lib.Seq.{take-at, take-all, drop-cons, length-take-le}
 use borrow.Author.Tests.{le-ltb, ltb-true, ltb-false}
-use Rattle.small.specs.Small.{padded, each}
-use Rattle.small.proofs.All.{All, all-take, all-at}
+use Rattle.small.specs.Small.{padded, each, All}
+use Rattle.small.proofs.All.{all-take, all-at}
 use Rattle.small.proofs.Padded.{padded-take, padded-length, padded-used, padded-unused}
 use Rattle.refusal.specs.Numbers.{bytesLeft}
-use Rattle.refusal.specs.Refusal.{none, Check, checkAt, firstOf}
+use Rattle.refusal.specs.Refusal.{none, Check, checkAt, firstOf, Passed}
 use Rattle.refusal.proofs.Decided.{Decided, decided}
-use Rattle.refusal.proofs.Exactly.{Passed, passes}
+use Rattle.refusal.proofs.Exactly.{passes}
 use Rattle.refusal.proofs.Joined.{passed-join, passed-parts, passed-none, Ranged, ranged-join, ranged-wider, ranged-numbered}
 use Rattle.field.specs.Field.{byteOf, fieldOf, big}
 use Rattle.field.specs.Bytes.{Bytes}

@@ -9,9 +9,9 @@ use native.Mathlib.Omega.{arith}
 use lib.ListN.{length, drop}
 use borrow.Author.Tests.{le-ltb}
 use Rattle.refusal.specs.Numbers.{bytesLeft}
-use Rattle.refusal.specs.Refusal.{refused, Check, firstOf}
+use Rattle.refusal.specs.Refusal.{refused, Check, firstOf, Passed}
 use Rattle.refusal.specs.declared.Refusal.{Refusal}
-use Rattle.refusal.proofs.Exactly.{Passed, Other, given-by, other, otherb}
+use Rattle.refusal.proofs.Exactly.{Other, given-by, other, otherb}
 use Rattle.refusal.proofs.Joined.{passed-join, passed-parts, other-join, ranged-other, first-append, first-before, first-behind}
 use Rattle.field.specs.Field.{byteOf}
 use Rattle.setup.specs.Read.{headChecks, taskChecks, startChecks, endOf, setupChecks, readOf}

@@ -10,11 +10,11 @@ use lib.Dec.{leb, ltb, eqb}
 use lib.ListN.{length, take, drop, length-append, length-drop}
 use lib.Seq.{take-add, take-at, drop-cons, drop-at, length-take-le}
 use borrow.Author.Tests.{eqb-true, eqb-false, le-leb, le-ltb, leb-true, ltb-false, not-false}
-use Rattle.small.specs.Small.{pick, padded, each}
-use Rattle.small.proofs.All.{All, all-take, all-at}
+use Rattle.small.specs.Small.{pick, padded, each, All}
+use Rattle.small.proofs.All.{all-take, all-at}
 use Rattle.small.proofs.Padded.{padded-take, padded-length, padded-used, padded-unused}
 use Rattle.small.proofs.Lists.{take-next}
-use Rattle.refusal.proofs.Exactly.{Passed}
+use Rattle.refusal.specs.Refusal.{Passed}
 use Rattle.refusal.proofs.Joined.{passed-join, passed-parts}
 use Rattle.field.specs.Field.{byteOf, fieldOf, big}
 use Rattle.field.specs.Bytes.{Bytes}

@@ -12,8 +12,7 @@ use lib.Seq.{drop-drop, getD-drop}
 use borrow.Author.Tests.{eq-eqb, eqb-true, eqb-false, le-leb, leb-true, le-ltb, lt-ltb, ltb-true, ltb-false, not-false}
 use Rattle.small.specs.Small.{pick}
 use Rattle.small.proofs.Tests.{contrary}
-use Rattle.refusal.specs.Refusal.{Check}
-use Rattle.refusal.proofs.Exactly.{Passed}
+use Rattle.refusal.specs.Refusal.{Check, Passed}
 use Rattle.refusal.proofs.Joined.{passed-join, passed-parts}
 use Rattle.field.specs.Field.{byteOf, fieldOf}
 use Rattle.table.specs.Limits.{entries}

@@ -10,19 +10,17 @@ use lib.Dec.{ltb}
 use lib.ListN.{length, take, drop}
 use borrow.Author.Tests.{ltb-true, lt-ltb, ltb-false, le-ltb, not-true, not-false}
 use Rattle.refusal.specs.Numbers.{setupShort, lengthDiffers, setupVersion, serverCount, recordCut, serverKind, taskCount, periodRange, budgetRange, releaseKind, workRange, releaseTimes, bytesLeft, unsound, bufferShort}
-use Rattle.refusal.specs.Refusal.{refused, none, firstOf}
-use Rattle.refusal.proofs.Exactly.{First, given, other, number-when, none-when, no-place}
+use Rattle.refusal.specs.Refusal.{refused, none, firstOf, First}
+use Rattle.refusal.proofs.Exactly.{given, other, number-when, none-when, no-place}
 use Rattle.refusal.proofs.Joined.{passed-none, ranged-first, first-append, first-behind, refusal-when}
 use Rattle.field.specs.Field.{byteOf, fieldOf}
-use Rattle.field.specs.Write.{written}
-use Rattle.field.specs.declared.Written.{Written}
 use Rattle.field.proofs.Answers.{written-number, written-place}
 use Rattle.table.specs.Limits.{entries}
 use Rattle.table.specs.Meaning.{Within}
 use Rattle.table.specs.Sound.{tableb}
 use Rattle.table.specs.declared.Table.{Table}
 use Rattle.setup.specs.Layout.{bytesOf}
-use Rattle.setup.specs.Write.{writeChecks, writeRefusal}
+use Rattle.setup.specs.Write.{writeChecks, writeRefusal, writeAnswer}
 use Rattle.setup.specs.Read.{headSize, headChecks, taskSize, taskChecks, startChecks, endOf, setupChecks, readOf}
 use Rattle.setup.specs.Records.{StartRight, Rec, recordsOf, checksOf, AllRight, Reached, AtHead, AtTask, Refused}
 use Rattle.setup.specs.Records.{HeadWhole, KindKnown, TasksFew, PFits, CFits, TaskWhole, ReleaseKnown, EFits, TFits, OFits}
@@ -239,34 +237,30 @@ module _ (D W : ℕ) (bs : List ℕ) where
 -- THE WRITER, for a buffer of n bytes
 
 module _ (D W : ℕ) (t : Table) (n : ℕ) where
-  -- what it answers
-  abbrev pub writeAnswer : Written
-  writeAnswer = written (writeRefusal D W t n) (bytesOf t)
-
-  write-number : writeAnswer .refusal .number ≡ firstOf (writeChecks D W t n) .number
+  write-number : writeAnswer D W t n .refusal .number ≡ firstOf (writeChecks D W t n) .number
   write-number = written-number (writeRefusal D W t n) (bytesOf t)
 
   -- "queue, state or table handed in isn't sound"
-  pub write-31 : writeAnswer .refusal .number ≡ unsound ↔ (tableb D W t ≡ false)
+  pub write-31 : writeAnswer D W t n .refusal .number ≡ unsound ↔ (tableb D W t ≡ false)
   write-31 =
       number-when _ (writeChecks D W t n) write-number 0 refl refl
       (λ h. not-true _ (h .1))
       (λ h. (tt, ap not h))
 
   -- "buffer too short for what is written"
-  pub write-32 : writeAnswer .refusal .number ≡ bufferShort ↔ (tableb D W t ≡ true) × (n < length (bytesOf t))
+  pub write-32 : writeAnswer D W t n .refusal .number ≡ bufferShort ↔ (tableb D W t ≡ true) × (n < length (bytesOf t))
   write-32 =
       number-when _ (writeChecks D W t n) write-number 1 refl refl
       (λ h. (not-false _ (h .0 .0), ltb-true n (length (bytesOf t)) (h .1)))
       (λ h. ((ap not (h .0), tt), lt-ltb n (length (bytesOf t)) (h .1)))
 
   -- and no refusal exactly when neither test holds
-  pub write-accepted : writeAnswer .refusal .number ≡ 0 ↔ (tableb D W t ≡ true) × (length (bytesOf t) ≤ n)
+  pub write-accepted : writeAnswer D W t n .refusal .number ≡ 0 ↔ (tableb D W t ≡ true) × (length (bytesOf t) ≤ n)
   write-accepted =
       none-when _ (writeChecks D W t n) write-number refl
       (λ h. (not-false _ (h .0), ltb-false n (length (bytesOf t)) (h .1 .0)))
       (λ h. (ap not (h .0), (le-ltb n (length (bytesOf t)) (h .1), tt)))
 
   -- "the place (0 where none is named below)"
-  pub write-place : writeAnswer .refusal .place ≡ 0
+  pub write-place : writeAnswer D W t n .refusal .place ≡ 0
   write-place = written-place (writeRefusal D W t n) (bytesOf t) (no-place (writeChecks D W t n) refl)

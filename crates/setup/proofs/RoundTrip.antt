@@ -21,10 +21,10 @@ use Rattle.table.specs.declared.Table.{Table}
 use Rattle.table.proofs.Soundness.{table-sound}
 use Rattle.setup.specs.Layout.{taskBytes, headBytes, serverBytes, recordBytes, bytesOf}
 use Rattle.setup.specs.Read.{tableOf, readWith, readOf}
-use Rattle.setup.specs.Write.{writtenTo}
+use Rattle.setup.specs.Write.{writtenTo, writeAnswer}
 use Rattle.setup.specs.declared.Reading.{Reading}
 use Rattle.setup.proofs.Accepted.{table-read, table-passes, table-sized, table-in-range, table-bytes, most-bytes, stated-length, all-bytes, read-passed, passed-read}
-use Rattle.setup.proofs.Refusals.{writeAnswer, write-accepted}
+use Rattle.setup.proofs.Refusals.{write-accepted}
 use Rattle.setup.proofs.Unchanged.{write-whole}
 
 -- A SOUND TABLE, with its eight entries of eight

@@ -10,10 +10,10 @@ use Rattle.table.specs.Table.{zeroTable}
 use Rattle.table.specs.declared.Table.{Table}
 use Rattle.setup.specs.Layout.{bytesOf}
 use Rattle.setup.specs.Read.{readOf}
-use Rattle.setup.specs.Write.{writeRefusal, writtenTo}
+use Rattle.setup.specs.Write.{writeRefusal, writtenTo, writeAnswer}
 use Rattle.setup.specs.declared.Reading.{Reading}
 use Rattle.setup.proofs.Accepted.{read-decided}
-use Rattle.setup.proofs.Refusals.{writeAnswer, write-accepted}
+use Rattle.setup.proofs.Refusals.{write-accepted}
 
 -- THE READER
 

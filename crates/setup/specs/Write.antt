@@ -7,7 +7,8 @@ use lib.ListN.{length}
 use Rattle.refusal.specs.Numbers.{unsound, bufferShort}
 use Rattle.refusal.specs.Refusal.{Check, check, firstOf}
 use Rattle.refusal.specs.declared.Refusal.{Refusal}
-use Rattle.field.specs.Write.{bufferAfter}
+use Rattle.field.specs.declared.Written.{Written}
+use Rattle.field.specs.Write.{bufferAfter, written}
 use Rattle.table.specs.Sound.{tableb}
 use Rattle.table.specs.declared.Table.{Table}
 use Rattle.setup.specs.Layout.{bytesOf}
@@ -17,6 +18,10 @@ writeChecks D W t n = check unsound (not (tableb D W t)) ∷ check bufferShort (
 
 abbrev pub writeRefusal : ℕ → ℕ → Table → ℕ → Refusal
 writeRefusal D W t n = firstOf (writeChecks D W t n)
+
+-- what the writer answers
+abbrev pub writeAnswer : ℕ → ℕ → Table → ℕ → Written
+writeAnswer D W t n = written (writeRefusal D W t n) (bytesOf t)
 
 -- what a buffer then holds
 abbrev pub writtenTo : ℕ → ℕ → Table → List ℕ → List ℕ

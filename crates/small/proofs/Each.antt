@@ -7,8 +7,8 @@ use native.Mathlib.Numerals.{add-one}
 use native.Mathlib.Omega.{arith}
 use lib.ListN.{length, take, getD, length-append}
 use lib.Seq.{take-suc}
-use Rattle.small.specs.Small.{each}
-use Rattle.small.proofs.All.{All, all-of}
+use Rattle.small.specs.Small.{each, All}
+use Rattle.small.proofs.All.{all-of}
 
 module _ {A : Type 0} (f : A → List ℕ) where
   pub each-append : (xs ys : List A) → each f (xs ++ ys) ≡ each f xs ++ each f ys

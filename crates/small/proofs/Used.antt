@@ -10,9 +10,8 @@ use lib.Dec.{ltb}
 use lib.ListN.{length, getD, drop, drop-of-length-le}
 use lib.Seq.{drop-cons}
 use borrow.Author.Tests.{ltb-true, ltb-false}
-use Rattle.small.specs.Small.{pick, both, alter, usedb}
+use Rattle.small.specs.Small.{pick, both, alter, usedb, All}
 use Rattle.small.proofs.Tests.{both-left, both-right}
-use Rattle.small.proofs.All.{All}
 
 -- with no entry in use the first test is not asked
 pub used-none : {A : Type 0} (good other none : A → Bool) (xs : List A) → usedb good none xs 0 ≡ usedb other none xs 0

@@ -29,6 +29,11 @@ usedb good none [] n = true
 usedb good none (x ∷ xs) zero = both (none x) (usedb good none xs zero)
 usedb good none (x ∷ xs) (suc n) = both (good x) (usedb good none xs n)
 
+-- it holds of each
+abbrev pub All : {A : Type 0} → (A → Type 0) → List A → Type 0
+All P [] = Unit
+All P (x ∷ xs) = P x × All P xs
+
 -- what each gives, one behind the other: bytes of a file, words of memory
 abbrev pub each : {A : Type 0} → (A → List ℕ) → List A → List ℕ
 each f [] = []

@@ -21,7 +21,8 @@ use Rattle.queue.proofs.SoundLaws.{sound-is, empty-events}
 use Rattle.queue.proofs.Events.{with-length, with-sorted, with-near}
 use Rattle.queue.proofs.Refusals.{insert-accepted}
 use Rattle.queue.proofs.Keeps.{empty-sound, insert-sound}
-use Rattle.queue.proofs.DueTimes.{there, away, insert-others, insert-new}
+use Rattle.queue.specs.Meaning.{there, away}
+use Rattle.queue.proofs.DueTimes.{insert-others, insert-new}
 use Rattle.queue.proofs.Room.{room}
 use Rattle.table.specs.Limits.{mostWork, entries}
 use Rattle.table.specs.Table.{periodOf, zeroTask, zeroServer, periodIn}

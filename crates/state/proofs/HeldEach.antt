@@ -19,7 +19,7 @@ use Rattle.queue.specs.declared.Queue.{Queue}
 use Rattle.queue.proofs.SoundLaws.{sound-is}
 use Rattle.queue.proofs.Normal.{sorted-events}
 use Rattle.queue.proofs.Events.{without-has, without-distinct, without-gone, due-first}
-use Rattle.queue.proofs.DueTimes.{there, away}
+use Rattle.queue.specs.Meaning.{there, away}
 use Rattle.state.proofs.Stated.{held}
 
 -- EACH EVENT IS 1 TO ITS REACH AWAY

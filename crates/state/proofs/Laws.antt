@@ -11,7 +11,7 @@ use borrow.Author.Tests.{eq-eqb, ne-eqb, eqb-true, not-true, le-ltb, ltb-true, l
 use Rattle.small.specs.Small.{pick}
 use Rattle.small.proofs.Tests.{both-left, both-right, both-false, contrary}
 use Rattle.refusal.specs.Refusal.{none}
-use Rattle.queue.proofs.DueTimes.{away}
+use Rattle.queue.specs.Meaning.{away}
 use Rattle.queue.specs.Limits.{longest}
 use Rattle.table.specs.Kind.{pollingKind}
 use Rattle.table.specs.Limits.{entries, mostWork}

@@ -17,12 +17,11 @@ use Rattle.small.proofs.Lists.{past-default, replicate-default}
 use Rattle.queue.specs.Limits.{maxGap, longest}
 use Rattle.queue.specs.Row.{Event, cellsOf, queueOf, eventsOf, normal}
 use Rattle.queue.specs.Sound.{sameb, soundb, hasb}
-use Rattle.queue.specs.Meaning.{SoundQueue}
+use Rattle.queue.specs.Meaning.{SoundQueue, there, away}
 use Rattle.queue.specs.Holds.{holdsb}
 use Rattle.queue.specs.declared.Queue.{Queue}
 use Rattle.queue.proofs.SoundLaws.{sound-is}
 use Rattle.queue.proofs.Soundness.{queue-sound}
-use Rattle.queue.proofs.DueTimes.{there, away}
 use Rattle.table.specs.Kind.{pollingKind}
 use Rattle.table.specs.Limits.{mostWork, entries}
 use Rattle.table.specs.Table.{zeroTask, zeroServer, releaseNumber, periodOf, offsetOf}

@@ -1,4 +1,5 @@
--- WHAT IS SAID OF A STATE, sentence by sentence: the fresh state, who is chosen, who wants a tick, and who gives its budget up. The arrays have their lengths. Assumes nothing.
+-- WHAT IS SAID OF A STATE, sentence by sentence: the fresh state, who is chosen, who wants a tick, and who gives its budget up. The arrays have their lengths.
+-- Assumes nothing.
 use mathlib.Core.Path.{_≡_, refl, ap, _∙_, sym}
 use mathlib.Core.Bool.{Bool, true, false}
 use mathlib.Core.List.{List}

@@ -73,8 +73,8 @@ pub record PeriodicTask (s : State) (i j : ℕ) : Type 0 where
   pub task : j < serverAt s i .count
   pub periodic : releaseNumber (releaseAt s i j) ≡ 1
 
--- "A state is sound if ..": the document's words, clause by clause. "Event ids are the places in the table." `state-sound` (proofs/Soundness.antt) says that the
--- test `stateb` holds exactly of the states that are sound in these words.
+-- "A state is sound if ..": the document's words, clause by clause. "Event ids are the places in the table." `state-sound` (proofs/Soundness.antt) says that
+-- the test `stateb` holds exactly of the states that are sound in these words.
 pub record SoundState (s : State) : Type 0 where
   -- "table values are in range; unused entries are zero": the table's, the servers', and the tasks' of each server
   pub table : SoundTable longest mostWork (s .table)

@@ -1,5 +1,5 @@
-// The state of servers and their tasks: its types and limits, its soundness, who is chosen, and the state in which a setup begins. Document 01, "Servers and tasks",
-// and the polling servers of document 02, #101.
+// The state of servers and their tasks: its types and limits, its soundness, who is chosen, and the state in which a setup begins. Document 01,
+// "Servers and tasks", and the polling servers of document 02, #101.
 use queue::Distance;
 use queue::Queue;
 use refusal::Refusal;

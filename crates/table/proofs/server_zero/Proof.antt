@@ -1,5 +1,5 @@
 -- `table::server_zero` meets its contract: the four numbers are tested as in the definition, and with the count 0 the tasks are sound exactly when all are zero
--- (proofs/Used.antt).
+-- (proofs/Used.antt of `small`).
 use mathlib.Core.Path.{_≡_}
 use mathlib.Core.Bool.{true}
 use borrow.Author.Needs.{needs}

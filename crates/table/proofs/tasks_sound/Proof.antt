@@ -1,4 +1,4 @@
--- `table::tasks_sound` meets its contract. The loop's invariant: the whole test is what is left of it from the task at i on (proofs/Used.antt).
+-- `table::tasks_sound` meets its contract. The loop's invariant: the whole test is what is left of it from the task at i on (proofs/Used.antt of `small`).
 use mathlib.Core.Path.{_≡_, sym, _∙_}
 use Prim.Native.Nat.{_≤_, _-_}
 use native.Mathlib.Omega.{arith}

@@ -12,7 +12,7 @@ use scheduler::{Answer, Arrival};
 use state::State;
 
 // A run of the program: the state, how many ticks have been run, and how many that messages asked for are left.
-#[derive(Drop)]
+#[derive(Clone, Copy)]
 pub struct Desk {
     pub state: State,
     pub ran: u32,
@@ -24,14 +24,14 @@ impl Desk {
     pub const LIMIT: u64 = 1_000_000;
 }
 
-#[derive(Drop)]
+#[derive(Clone, Copy)]
 pub struct Opened {
     pub desk: Desk,
     pub refusal: Refusal,
 }
 
 // What a message comes to: the run after it, the line it writes, and whether the program stops there.
-#[derive(Drop)]
+#[derive(Clone, Copy)]
 pub struct Met {
     pub desk: Desk,
     pub line: Line,
@@ -39,7 +39,7 @@ pub struct Met {
 }
 
 // The answers of a batch of ticks, the first one's number, and how many there are. Refused: the run as it was, and zero in every other part.
-#[derive(Drop)]
+#[derive(Clone, Copy)]
 pub struct Ran {
     pub answers: [Answer; State::BATCH],
     pub desk: Desk,

@@ -8,7 +8,7 @@ ghost use Rattle.field.specs.Write.{written_with};
 use refusal::Refusal;
 
 // The answer of a writer: how many bytes it wrote. A refused writer has written none.
-#[derive(Drop)]
+#[derive(Clone, Copy)]
 pub struct Written {
     pub refusal: Refusal,
     pub length: usize,

@@ -7,7 +7,7 @@ use state::{Choice, State};
 use std::num::wrapping_add_u64;
 
 // Of the ticks run so far.
-#[derive(Drop)]
+#[derive(Clone, Copy)]
 struct Sums {
     ticks: u64,
     handled: u64,

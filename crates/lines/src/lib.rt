@@ -14,7 +14,7 @@ use scheduler::Answer;
 use state::{Choice, State};
 
 // What a message makes the program write beside its ticks.
-#[derive(Drop)]
+#[derive(Clone, Copy)]
 pub enum Line {
     Nothing,
     Refused(u8, u64),

@@ -8,13 +8,13 @@ use field::Written;
 use refusal::Refusal;
 
 // Kind 1 runs a number of ticks; kind 2 is an arrival at a server's task.
-#[derive(Drop)]
+#[derive(Clone, Copy)]
 pub enum Message {
     Run(u16),
     Arrival(u8, u8),
 }
 
-#[derive(Drop)]
+#[derive(Clone, Copy)]
 pub struct Reading {
     pub refusal: Refusal,
     pub message: Message,

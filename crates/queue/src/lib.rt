@@ -19,7 +19,7 @@ use refusal::Refusal;
 
 // An event (id 0 to 254) or a filler (id 255), with its gap to the cell before it. The first gap counts from now.
 #[repr(C)]
-#[derive(Drop)]
+#[derive(Clone, Copy)]
 pub struct Cell {
     pub id: u8,
     pub gap: u16,
@@ -27,31 +27,31 @@ pub struct Cell {
 
 // The first `len` cells are the queue; those past them are zero.
 #[repr(C)]
-#[derive(Drop)]
+#[derive(Clone, Copy)]
 pub struct Queue {
     pub cells: [Cell; Queue::CELLS],
     pub len: usize,
 }
 
 // A distance in clock ticks.
-#[derive(Drop)]
+#[derive(Clone, Copy)]
 pub struct Distance(pub u32);
 
 // The answer of insert, remove, clock and push back. A refused call gives the queue back as it was.
-#[derive(Drop)]
+#[derive(Clone, Copy)]
 pub struct Changed {
     pub refusal: Refusal,
     pub queue: Queue,
 }
 
-#[derive(Drop)]
+#[derive(Clone, Copy)]
 pub struct Taken {
     pub refusal: Refusal,
     pub id: u8,
     pub queue: Queue,
 }
 
-#[derive(Drop)]
+#[derive(Clone, Copy)]
 pub struct Left {
     pub refusal: Refusal,
     pub distance: Distance,
@@ -310,7 +310,7 @@ pub extern "C" fn clock_in(q: &mut Queue) -> Refusal
 
 // What a take answers beside the queue.
 #[repr(C)]
-#[derive(Drop)]
+#[derive(Clone, Copy)]
 pub struct Took {
     pub refusal: Refusal,
     pub id: u8,
@@ -325,7 +325,7 @@ pub extern "C" fn take_in(q: &mut Queue) -> Took
     t.took
 }
 
-#[derive(Drop)]
+#[derive(Clone, Copy)]
 struct Apart {
     took: Took,
     queue: Queue,
@@ -398,7 +398,7 @@ fn total(q: Queue) -> u32
 // WALKING
 
 // How far a walk has come: the cells passed, the place behind the last event among them, that event's distance, and the last cell's.
-#[derive(Drop)]
+#[derive(Clone, Copy)]
 struct Walk {
     next: usize,
     start: usize,
@@ -451,7 +451,7 @@ fn passed(q: Queue, d: u32) -> Walk
 }
 
 // Where an event stands: the place behind the event before it, that one's distance, the place behind it, and its own distance.
-#[derive(Drop)]
+#[derive(Clone, Copy)]
 struct Found {
     found: bool,
     start: usize,
@@ -504,7 +504,7 @@ fn find(q: Queue, id: u8) -> Found
 }
 
 // The next event from a place on: its id, or a filler's where there is none, its distance, and the place behind it.
-#[derive(Drop)]
+#[derive(Clone, Copy)]
 struct Next {
     id: u8,
     at: u32,
@@ -556,7 +556,7 @@ fn end_of(q: Queue) -> u32
 // MOVING: the cells before a change stay, and each cell behind it is stored once
 
 // The cells of one gap: how many they are, and the gap of the first. Each other has the largest gap.
-#[derive(Drop)]
+#[derive(Clone, Copy)]
 struct Chain {
     cells: usize,
     gap: u16,

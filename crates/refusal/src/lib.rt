@@ -4,7 +4,7 @@ ghost use Rattle.refusal.specs.Refusal.{none, refused};
 
 // Number 0 is "not refused". The place is 0 where the document names none.
 #[repr(C)]
-#[derive(Drop)]
+#[derive(Clone, Copy)]
 pub struct Refusal {
     pub number: u8,
     pub place: usize,

@@ -18,7 +18,7 @@ use refusal::Refusal;
 use state::{Choice, Entry, Load, State};
 use table::{Served, Server, Table};
 
-#[derive(Drop)]
+#[derive(Clone, Copy)]
 pub struct Ticked {
     pub state: State,
     pub refusal: Refusal,
@@ -26,13 +26,13 @@ pub struct Ticked {
     pub handled: u32,
 }
 
-#[derive(Drop)]
+#[derive(Clone, Copy)]
 pub enum Arrival {
     Accepted,
     Lost,
 }
 
-#[derive(Drop)]
+#[derive(Clone, Copy)]
 pub struct Arrived {
     pub state: State,
     pub refusal: Refusal,
@@ -40,14 +40,14 @@ pub struct Arrived {
 }
 
 // One tick's answer in a run.
-#[derive(Drop)]
+#[derive(Clone, Copy)]
 pub struct Answer {
     pub choice: Choice,
     pub handled: u32,
 }
 
 // The answers of `count` ticks in a row, and the state after them.
-#[derive(Drop)]
+#[derive(Clone, Copy)]
 pub struct Batch {
     pub answers: [Answer; State::BATCH],
     pub state: State,
@@ -196,7 +196,7 @@ fn load_after(l: Load, work: u32) -> Load
 }
 
 // A server's entry after a tick, and how many of its arrivals were due.
-#[derive(Drop)]
+#[derive(Clone, Copy)]
 struct EntryTurn {
     entry: Entry,
     handled: u32,

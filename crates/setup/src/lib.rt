@@ -19,7 +19,7 @@ use refusal::Refusal;
 use table::{Release, Served, Server, Table, Task};
 
 // The table that a setup gives, or why it gives none: then the table is all zero.
-#[derive(Drop)]
+#[derive(Clone, Copy)]
 pub struct Reading {
     pub table: Table,
     pub refusal: Refusal,
@@ -105,7 +105,7 @@ fn start_refusal(s: &[u8]) -> Refusal
 }
 
 // Servers' records: the refusal, or the servers and the place behind them.
-#[derive(Drop)]
+#[derive(Clone, Copy)]
 struct ServersRead {
     servers: [Server; Table::ENTRIES],
     refusal: Refusal,
@@ -141,7 +141,7 @@ fn read_servers(s: &[u8], n: usize) -> ServersRead
     }
 }
 
-#[derive(Drop)]
+#[derive(Clone, Copy)]
 struct ServerRead {
     server: Server,
     refusal: Refusal,
@@ -210,7 +210,7 @@ fn head_refusal(s: &[u8], k: usize) -> Refusal
     Refusal::none()
 }
 
-#[derive(Drop)]
+#[derive(Clone, Copy)]
 struct TasksRead {
     tasks: [Task; Table::ENTRIES],
     refusal: Refusal,

@@ -16,21 +16,21 @@ use refusal::Refusal;
 use table::{Release, Served, Server, Table, Task};
 
 // A task's pending work and its lost count.
-#[derive(Drop)]
+#[derive(Clone, Copy)]
 pub struct Load {
     pub pending: Served,
     pub lost: u16,
 }
 
 // What a server has: its tasks' loads, the queue of its periodic tasks' arrivals, and its budget.
-#[derive(Drop)]
+#[derive(Clone, Copy)]
 pub struct Entry {
     pub loads: [Load; Table::ENTRIES],
     pub arrivals: Queue,
     pub budget: Served,
 }
 
-#[derive(Drop)]
+#[derive(Clone, Copy)]
 pub struct State {
     pub entries: [Entry; Table::ENTRIES],
     pub table: Table,
@@ -38,14 +38,14 @@ pub struct State {
 }
 
 // Whom a tick serves.
-#[derive(Drop)]
+#[derive(Clone, Copy)]
 pub enum Choice {
     Idle,
     Burning(u8),
     Running(u8, u8),
 }
 
-#[derive(Drop)]
+#[derive(Clone, Copy)]
 pub struct Made {
     pub state: State,
     pub refusal: Refusal,

@@ -10,24 +10,24 @@ ghost use Rattle.table.specs.Sound.{rangeb, kindb, releaseb, taskb, zero_taskb, 
 use queue::{Distance, Queue};
 
 // Ticks that a server is served: budgets and work. A `Distance` counts ticks of the clock, and neither passes for the other.
-#[derive(Drop)]
+#[derive(Clone, Copy)]
 pub struct Served(pub u32);
 
 // A task's release: on arrival, or periodic with its period T and its offset O.
-#[derive(Drop)]
+#[derive(Clone, Copy)]
 pub enum Release {
     OnArrival,
     Periodic { period: Distance, offset: Distance },
 }
 
-#[derive(Drop)]
+#[derive(Clone, Copy)]
 pub struct Task {
     pub work: Served,
     pub release: Release,
 }
 
 // The first `count` tasks are in use; the others are zero.
-#[derive(Drop)]
+#[derive(Clone, Copy)]
 pub struct Server {
     pub tasks: [Task; Table::ENTRIES],
     pub count: usize,
@@ -37,7 +37,7 @@ pub struct Server {
 }
 
 // The first `count` servers are in use; the others are zero.
-#[derive(Drop)]
+#[derive(Clone, Copy)]
 pub struct Table {
     pub servers: [Server; Table::ENTRIES],
     pub count: usize,

@@ -13,7 +13,7 @@ use std::num::{wrapping_add_u64, wrapping_add_usize};
 const CHUNK: usize = Message::LENGTH * 10_000;
 
 // The desk's run, the place of the next message in the input, and how far the output buffer is filled. `going`: the program goes on.
-#[derive(Drop)]
+#[derive(Clone, Copy)]
 struct Run {
     desk: Desk,
     place: u64,
@@ -22,7 +22,7 @@ struct Run {
 }
 
 // How far the output buffer is filled, when it has room for a batch of lines.
-#[derive(Drop)]
+#[derive(Clone, Copy)]
 struct Space {
     at: usize,
     going: bool,

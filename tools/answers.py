@@ -1,0 +1,261 @@
+#!/usr/bin/env python3
+"""Turns the proofs of a crate that go by the older generated module `Tie` (proofs/F/Proof.antt) into invariants and answers.
+
+usage: rt check --generated DIR --old-names            in the crate's folder, with the Proof.antt files moved aside
+       python3 tools/answers.py DIR/names.json CRATE [F..]     at the top of the repository
+
+It goes by the table of old and new names that the check writes: goals, places, steps and parameters. An answer that only calls a tactic is left out, since the
+check tries those itself. What it cannot turn is printed, and stands in the file between «« and »».
+"""
+import json
+import os
+import re
+import sys
+
+ID = r"[^\W\d][\w'-]*"
+TRIVIAL = re.compile(r"^(omega arith|search rules|tt|refl|cc)$")
+
+
+def norm(name):
+    name = name.replace("_", "-")
+    name = re.sub(r"^overflow-", "", name)
+    name = re.sub(r"^loop(\d*)-holds", r"loop\1-init", name)
+    name = re.sub(r"^loop(\d*)-less", r"loop\1-smaller", name)
+    return re.sub(r"^loop(\d*)-again", r"loop\1-preserved", name)
+
+
+class Function:
+    def __init__(self, crate, path, table):
+        self.crate, self.path, self.t = crate, path, table
+        self.module = path.replace("/", ".")
+        self.places = {norm(p[0]): p for p in table["places"]}
+        self.new_place = {norm(p[0]): n for p, n in zip(table["places"], table["places_by_name"])}
+        self.goals = {norm(o): n for o, n in table["needs"]}
+        self.goal_place = {norm(o): norm(a[0]) for (o, n), a in zip(table["needs"], table["asked_at"])}
+        self.goal_new = {norm(o): a[1] for (o, n), a in zip(table["needs"], table["asked_at"])}
+        self.loops = {}
+        for ((old, new), names), changed in zip(table["loops"], table["changed"]):
+            self.loops[norm(old)] = (new, names, changed)
+        self.args = {}
+        for a, b in table["args"]:
+            self.args[a.strip()] = b.strip()
+        self.notes = []
+
+    def bad(self, what):
+        self.notes.append(what)
+        return "««" + what + "»»"
+
+    def argument(self, fields):
+        """Fields from the start of the call on: parameters by their names in the source."""
+        text = "." + ".".join(fields)
+        text = text.replace(".well-formed", ".well_formed")
+        for a, b in self.args.items():
+            flat = a.replace(" ", "")
+            if text == flat or text.startswith(flat + "."):
+                return b.replace(" ", "") + text[len(flat):]
+        return text
+
+    def resolve(self, place, fields, bare):
+        """The new form of a path at a record of a place."""
+        fields = list(fields)
+        while fields and fields[0] == "before":
+            parent = self.places[place][1]
+            if parent is None:
+                return self.bad("before the start: " + ".".join(fields))
+            place = norm(parent)
+            fields.pop(0)
+        if not fields:
+            return bare(place)
+        here = self.places[place]
+        step = here[2]
+        if norm(fields[0]) == norm(step[0]) and step[0]:
+            rest = fields[1:]
+            if rest:
+                for old, new in here[4]:
+                    if rest[0] == old:
+                        rest[0] = new
+                        break
+                    # `fact` reads as `true` or `false`
+            rest = [self.field(f) for f in rest]
+            return "c." + step[1] + "".join("." + f for f in rest)
+        if place == "Start":
+            return "c" + self.argument(fields)
+        return self.bad(f"{place}: .{'.'.join(fields)}")
+
+    @staticmethod
+    def field(f):
+        return {"well-formed": "well_formed", "exit-of": "new"}.get(f, f)
+
+    def text(self, text, env, bare):
+        """Turns the paths of a piece of text, whose variables stand at the places of env."""
+        env = dict(env)
+        out, at = "", 0
+        path = re.compile(r"(?<![\w'.\-])(" + ID + r")((?:\.[\w'-]+)*)(?![\w'])")
+        let = re.compile(r"let (" + ID + r") = (" + ID + r")((?:\.[\w'-]+)*) in\s*")
+        while True:
+            m = path.search(text, at)
+            l = let.search(text, at)
+            if l and (not m or l.start() <= m.start()):
+                name, base, fields = l.group(1), l.group(2), l.group(3)
+                if base in env:
+                    fs = [f for f in fields.split(".") if f]
+                    if all(f == "before" for f in fs):
+                        place = env[base]
+                        for _ in fs:
+                            place = norm(self.places[place][1] or "")
+                        out += text[at : l.start()]
+                        env[name] = place
+                        at = l.end()
+                        continue
+                    env.pop(name, None)
+                    out += text[at : l.start()] + f"let {name} = " + self.resolve(env[base], fs, bare) + text[l.end(3) : l.end()]
+                    at = l.end()
+                    continue
+                out += text[at : l.start(2)]
+                env.pop(name, None)
+                at = l.start(2)
+                continue
+            if not m:
+                return out + text[at:]
+            out += text[at : m.start()]
+            if m.group(1) in env:
+                out += self.resolve(env[m.group(1)], [f for f in m.group(2).split(".") if f], bare)
+            else:
+                out += m.group(0)
+            at = m.end()
+
+
+def blocks(text):
+    """The declarations of a file: pieces parted by empty lines, where a piece begins at the margin."""
+    out = []
+    for piece in re.split(r"\n\s*\n", text.strip("\n")):
+        if out and piece.startswith(" "):
+            out[-1] += "\n\n" + piece
+        else:
+            out.append(piece)
+    return out
+
+
+def turn(crate, path, table, top):
+    f = Function(crate, path, table)
+    source = f"{top}/crates/{crate}/proofs/{path}/Proof.antt"
+    text = open(source, encoding="utf-8").read()
+    pieces = blocks(text)
+    head, uses = [], []
+    first = pieces.pop(0)
+    for line in first.split("\n"):
+        (uses if line.startswith("use ") else head).append(line)
+    uses = [u for u in uses if not re.search(r"\.(Tie as|Statement\.)", u)]
+    invariants, answers, dropped = [], [], []
+    tail = r"(?: invariant-loop\d*)*(?: decreases-loop\d*)*(?: invariant-loop\d*| decreases-loop\d*)*"
+    for piece in pieces:
+        lines = piece.split("\n")
+        comments = [l for l in lines if l.startswith("--")]
+        code = "\n".join(l for l in lines if not l.startswith("--"))
+        m = re.match(r"(?:abbrev )?(?:pub )?(" + ID + r") : tie\.(invariant|decreases)-(loop\d*)\n", code)
+        if m:
+            new, names, changed = f.loops[norm(m.group(3))]
+            body = code[m.end() :]
+            b = re.match(re.escape(m.group(1)) + r"((?: \S+)*) =\s*", body)
+            given = b.group(1).split()
+            want = []
+            for n, c in zip(names, changed):
+                want += ["l.initial." + n, "l." + n] if c else ["l." + n]
+            rest = body[b.end() :]
+            if len(given) != len(want):
+                f.bad(f"{m.group(1)}: {given} for {want}")
+            mapping = dict(zip(given, want))
+
+            def variable(k):
+                return mapping.get(k.group(1), k.group(1)) + k.group(2)
+
+            # a variable that a let or a λ of the body binds again keeps its name
+            rest = re.sub(r"(?<![\w'.\-₀])(" + ID + r"₀?)((?:\.[\w'-]+)*)(?![\w'₀-])", variable, rest)
+            invariants.append("\n".join(comments + [f"abbrev pub {m.group(2)}-{new} : goal.{m.group(2)}-{new}", f"{m.group(2)}-{new} l =", "    " + rest]))
+            continue
+        m = re.match(r"(?:abbrev )?(?:pub )?(" + ID + r") : tie\.Need-(\S+)" + tail + r"\n", code)
+        if m:
+            old = norm(m.group(2))
+            if old not in f.goals:
+                dropped.append(m.group(2))
+                continue
+            new, place = f.goals[old], f.goal_place[old]
+            body = code[m.end() :]
+            unfold = ""
+            if body.startswith("unfolding"):
+                unfold, body = body.split("\n", 1)
+                unfold += "\n"
+            b = re.match(re.escape(m.group(1)) + r" (\S+)(?: κs)? =\s*", body)
+            if not b:
+                f.bad(f"{m.group(1)}: no equation")
+                continue
+            rest = body[b.end() :]
+            if TRIVIAL.match(rest.strip()):
+                continue
+
+            def bare(p, new=new, place=place):
+                return "c" if p == place and False else f"(goal.at.{new} c).{f.new_place[p]}"
+
+            rest = f.text(rest, {b.group(1): place}, bare)
+            answers.append("\n".join(comments + [f"pub {new} : goal.{new}"]) + "\n" + unfold + f"{new} c =\n    " + rest)
+            continue
+        if re.match(r"(?:abbrev )?(?:pub )?" + ID + r" :.*statement", code) and "tie.close" in code:
+            continue
+        # a lemma of this proof
+        m = re.search(r"\((" + ID + r") : tie\.(?!Need)(\S+?)" + tail + r"\)", code)
+        if m:
+            place = norm(m.group(2))
+            if place not in f.places:
+                answers.append("\n".join(comments + [f.bad(f"place {m.group(2)}"), code]))
+                continue
+            kind = f.new_place[place]
+            code = code[: m.start()] + f"({m.group(1)} : goal.{kind})" + code[m.end() :]
+
+            def bare(p, place=place, kind=kind):
+                return "c" if p == place else f"(goal.at.{kind} c).{f.new_place[p]}"
+
+            name = re.match(r"(?:abbrev )?(?:pub )?(" + ID + ")", code).group(1)
+            var = m.group(1)
+            # the equation may name the record otherwise
+            eq = re.search(r"^" + re.escape(name) + r" (\S+)", code, re.M)
+            env = {var: place}
+            if eq and eq.group(1) != var:
+                env[eq.group(1)] = place
+            keep = code.index(f"({var} : goal.{kind})") + len(f"({var} : goal.{kind})")
+            headpart, rest = code[:keep].replace(f"({var} : ", "(c : "), code[keep:]
+            answers.append("\n".join(comments + [headpart + f.text(rest, env, bare)]))
+        else:
+            answers.append("\n".join(comments + [code]))
+    folder = f"{top}/crates/{crate}/proofs/{path}"
+    needs = [p for p in answers if "goal." in p]
+    if invariants:
+        with open(folder + "/Invariants.antt", "w", encoding="utf-8") as h:
+            h.write("\n".join(head + uses + [f"use Rattle.{crate}.proofs.{f.module}.Given as goal"]) + "\n\n" + "\n\n".join(invariants) + "\n")
+    if needs:
+        with open(folder + "/Answers.antt", "w", encoding="utf-8") as h:
+            h.write("\n".join(([] if invariants else head) + uses + [f"use Rattle.{crate}.proofs.{f.module}.Goals as goal"]) + "\n\n" + "\n\n".join(answers) + "\n")
+    os.remove(source)
+    for n in f.notes:
+        print(f"{crate}::{path}: {n}")
+    if dropped:
+        print(f"{crate}::{path}: no longer a goal: {' '.join(dropped)}")
+
+
+def main():
+    names, crate, only = sys.argv[1], sys.argv[2], sys.argv[3:]
+    top = os.getcwd()
+    with open(names, encoding="utf-8") as h:
+        tables = json.load(h)
+    for key, table in sorted(tables.items()):
+        m = re.match(r"Rattle-" + crate + r"-proofs\.(.*)\.Lts$", key)
+        if not m:
+            continue
+        path = m.group(1).replace(".", "/")
+        if only and path not in only:
+            continue
+        if os.path.exists(f"{top}/crates/{crate}/proofs/{path}/Proof.antt"):
+            turn(crate, path, table, top)
+
+
+if __name__ == "__main__":
+    main()

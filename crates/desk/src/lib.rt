@@ -1,4 +1,6 @@
 // What the trace program does with what it reads: document 01, "The trace program". It decides on values and slices; crate `lines` has the text.
+#![tactic(auto)]
+
 ghost use Rattle.std.specs.Prelude.{◌≡◌, true, false, ◌+◌, ltb, eqb};
 ghost use Rattle.small.specs.Small.{pick};
 ghost use Rattle.refusal.specs.Numbers.{ticks_passed};

@@ -1,5 +1,7 @@
 // Hands damaged setups and messages to the readers, and tables and messages to the writers, and writes each with its answer: the number of the refusal and its
 // place, `0 at 0` where nothing is refused. The comments quote document 01 where they name no other.
+#![tactic(auto)]
+
 use field::Written;
 use libc::STDOUT_FILENO;
 use refusal::Refusal;

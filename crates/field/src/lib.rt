@@ -1,5 +1,7 @@
 // Big-endian fields of a file or a message, read from a slice and written into one. Every function is total: what stands past the end reads as 0, and a
 // write that does not fit changes nothing.
+#![tactic(auto)]
+
 ghost use Rattle.std.specs.Prelude.{◌≡◌, [], ◌∷◌, drop};
 ghost use Rattle.refusal.specs.Refusal.{none, refused};
 ghost use Rattle.field.specs.Field.{byte_of, field_of, big, over};

@@ -1,5 +1,7 @@
 // Runs batches of ticks of a setup and writes one line: how many ticks, how many events were handled, and how many ticks were idle, burned and running.
 // Standard input is a setup, then the number of batches in two bytes. `bench/run` counts its instructions, and those of the same work in C.
+#![tactic(auto)]
+
 use libc::{STDIN_FILENO, STDOUT_FILENO};
 use refusal::Refusal;
 use scheduler::{Answer, Batch};

@@ -1,5 +1,7 @@
 // What the trace program writes, line by line: document 01, "The trace program". Each public function puts one thing into a lent buffer from a place on and
 // answers how many bytes it wrote. Where the thing does not fit it is refused with 32, and no byte is changed.
+#![tactic(auto)]
+
 ghost use Rattle.std.specs.Prelude.{◌≡◌, [], ◌∷◌, ◌+◌, ◌≤◌, ◌<◌, leb, length};
 ghost use Rattle.field.specs.Field.{over};
 ghost use Rattle.lines.specs.Decimal.{decimal};

@@ -1,4 +1,6 @@
 // The reader and the writer of messages: document 01, "Files and messages".
+#![tactic(auto)]
+
 ghost use Rattle.std.specs.Prelude.{◌≡◌, length};
 ghost use Rattle.refusal.specs.Refusal.{none, refused};
 ghost use Rattle.field.specs.Write.{written, buffer_after};

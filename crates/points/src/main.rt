@@ -1,4 +1,6 @@
 // Runs document 01's points on the edge and writes each with its outcome: the number of a refusal, or the cells as `id+gap`, a filler as `-+gap`.
+#![tactic(auto)]
+
 use libc::STDOUT_FILENO;
 use queue::{Changed, Distance, Queue};
 

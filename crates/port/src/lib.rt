@@ -1,5 +1,7 @@
 // The library for a kernel in C: include/ribascenzo.h declares it. A queue, a table or a state is held in words at fixed places (words.rt). A call reads
 // them, does what the by-value call does, and stores what comes of it; a refused call stores nothing.
+#![tactic(auto)]
+
 mod words;
 
 ghost use Rattle.std.specs.Prelude.{◌≡◌, [], length};

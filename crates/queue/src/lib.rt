@@ -1,5 +1,7 @@
 // The relative event queue of document 01: a row of cells, each with the gap to the cell before it. Below, in this order: the types and limits, the
 // calls, the same calls on a queue that is lent, and the private functions. steps.rt has the total steps for a scheduler that has checked its state.
+#![tactic(auto)]
+
 pub mod steps;
 
 ghost use Rattle.std.specs.Prelude.{◌≡◌, [], ◌∷◌, true, false, ◌+◌, ◌-◌, ◌*◌, ◌≤◌, ◌<◌, leb, ltb, eqb, drop, get_or, replicate};

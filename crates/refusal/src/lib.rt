@@ -1,4 +1,6 @@
 // What a refused call answers: the number of document 01's table and the place that it names.
+#![tactic(auto)]
+
 ghost use Rattle.std.specs.Prelude.{◌≡◌};
 ghost use Rattle.refusal.specs.Refusal.{none, refused};
 

@@ -1,4 +1,6 @@
 // The scheduler over a state: a tick, a run of ticks and an arrival. Document 01, "Servers and tasks", and the polling servers of document 02, #101.
+#![tactic(auto)]
+
 ghost use Rattle.std.specs.Prelude.{◌≡◌, true, ◌≤◌, ltb};
 ghost use Rattle.refusal.specs.Refusal.{none, refused};
 ghost use Rattle.queue.specs.Limits.{longest};

@@ -1,4 +1,6 @@
 // The reader and the writer of the setup file: document 01, "Files and messages".
+#![tactic(auto)]
+
 ghost use Rattle.std.specs.Prelude.{◌≡◌, true, leb, eqb, ◌+◌, ◌≤◌, length, drop, take};
 ghost use Rattle.small.specs.Small.{pick, each};
 ghost use Rattle.refusal.specs.Refusal.{first_of, refused};

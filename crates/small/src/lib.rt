@@ -1,4 +1,6 @@
 //! The small words that all crates are written with: specs/Small.antt has the definitions, proofs/ the laws of tests and lists that every proof may cite.
+#![tactic(auto)]
+
 ghost use Rattle.std.specs.Prelude.{◌≡◌, min};
 
 // The smaller of two.

@@ -1,5 +1,7 @@
 // The state of servers and their tasks: its types and limits, its soundness, who is chosen, and the state in which a setup begins. Document 01,
 // "Servers and tasks", and the polling servers of document 02, #101.
+#![tactic(auto)]
+
 ghost use Rattle.std.specs.Prelude.{◌≡◌, eqb};
 ghost use Rattle.small.specs.Small.{pick, usedb};
 ghost use Rattle.queue.specs.Limits.{max_gap, longest};

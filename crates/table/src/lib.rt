@@ -1,5 +1,7 @@
 // The table of servers and tasks that a setup gives: document 01, "Servers and tasks"; polling servers are document 02, #101. Rank is the place in the table,
 // 0 the highest.
+#![tactic(auto)]
+
 ghost use Rattle.std.specs.Prelude.{◌≡◌, true, false, eqb};
 ghost use Rattle.small.specs.Small.{pick};
 ghost use Rattle.queue.specs.Limits.{longest};

@@ -1,5 +1,7 @@
 // The trace program of document 01. It reads standard input to its end and writes the trace. Crate `desk` decides what a message does, crate `lines` has what a
 // line says; here bytes are read, handed over and written, in large pieces.
+#![tactic(auto)]
+
 ghost use Rattle.std.specs.Prelude.{◌<◌};
 
 use desk::Desk;

@@ -13,7 +13,7 @@ import re
 import sys
 
 ID = r"[^\W\d][\w'-]*"
-TRIVIAL = re.compile(r"^(omega arith|search rules|tt|refl|cc)$")
+TRIVIAL = re.compile(r"^(omega arith|search rules|tt|cc)$")
 
 
 def norm(name):
@@ -40,6 +40,12 @@ class Function:
         for a, b in table["args"]:
             self.args[a.strip()] = b.strip()
         self.notes = []
+        self.asked = set()
+
+    def at(self, place):
+        """The name of a place's record, which the answers are to import."""
+        self.asked.add(self.new_place[place])
+        return self.new_place[place]
 
     def bad(self, what):
         self.notes.append(what)
@@ -58,6 +64,8 @@ class Function:
     def resolve(self, place, fields, bare):
         """The new form of a path at a record of a place."""
         fields = list(fields)
+        if place == "args":
+            return "c" + self.argument(["args"] + fields)
         while fields and fields[0] == "before":
             parent = self.places[place][1]
             if parent is None:
@@ -68,7 +76,7 @@ class Function:
             return bare(place)
         here = self.places[place]
         step = here[2]
-        if norm(fields[0]) == norm(step[0]) and step[0]:
+        if step[0] and norm(step[0]) in (norm(fields[0]), norm(re.sub(r"_lem$", "", fields[0]))):
             rest = fields[1:]
             if rest:
                 for old, new in here[4]:
@@ -84,7 +92,7 @@ class Function:
 
     @staticmethod
     def field(f):
-        return {"well-formed": "well_formed", "exit-of": "new"}.get(f, f)
+        return {"well-formed": "well_formed", "type-inv": "type_inv"}.get(f, f)
 
     def text(self, text, env, bare):
         """Turns the paths of a piece of text, whose variables stand at the places of env."""
@@ -108,6 +116,12 @@ class Function:
                         at = l.end()
                         continue
                     env.pop(name, None)
+                    if fs[-1] == "args" and all(f == "before" for f in fs[:-1]):
+                        # the arguments go by their own names
+                        env[name] = "args"
+                        out += text[at : l.start()]
+                        at = l.end()
+                        continue
                     out += text[at : l.start()] + f"let {name} = " + self.resolve(env[base], fs, bare) + text[l.end(3) : l.end()]
                     at = l.end()
                     continue
@@ -160,7 +174,8 @@ def turn(crate, path, table, top):
             given = b.group(1).split()
             want = []
             for n, c in zip(names, changed):
-                want += ["l.initial." + n, "l." + n] if c else ["l." + n]
+                want.append("l.initial." + n if c else "l." + n)
+            want += ["l." + n for n, c in zip(names, changed) if c]
             rest = body[b.end() :]
             if len(given) != len(want):
                 f.bad(f"{m.group(1)}: {given} for {want}")
@@ -181,6 +196,7 @@ def turn(crate, path, table, top):
                 continue
             new, place = f.goals[old], f.goal_place[old]
             body = code[m.end() :]
+            body = re.sub(r"rw length-map at (\(?[\w'.-]*well[-_]formed[\w.]*\)?)", r"\1", body)
             unfold = ""
             if body.startswith("unfolding"):
                 unfold, body = body.split("\n", 1)
@@ -190,11 +206,11 @@ def turn(crate, path, table, top):
                 f.bad(f"{m.group(1)}: no equation")
                 continue
             rest = body[b.end() :]
-            if TRIVIAL.match(rest.strip()):
+            if not unfold and TRIVIAL.match(rest.strip()):
                 continue
 
             def bare(p, new=new, place=place):
-                return "c" if p == place and False else f"(goal.at.{new} c).{f.new_place[p]}"
+                return f"(goal.at.{new} c).{f.at(p)}"
 
             rest = f.text(rest, {b.group(1): place}, bare)
             answers.append("\n".join(comments + [f"pub {new} : goal.{new}"]) + "\n" + unfold + f"{new} c =\n    " + rest)
@@ -202,17 +218,19 @@ def turn(crate, path, table, top):
         if re.match(r"(?:abbrev )?(?:pub )?" + ID + r" :.*statement", code) and "tie.close" in code:
             continue
         # a lemma of this proof
+        code = re.sub(r"^((?:abbrev |pub )*" + ID + r" : )tie\.(?!Need|invariant|decreases)([^\s()]+?)" + tail + r" → ", r"\1(c : tie.\2) → ", code, count=1)
+        code = re.sub(r"rw length-map at (\(?[\w'.-]*well[-_]formed[\w.]*\)?)", r"\1", code)
         m = re.search(r"\((" + ID + r") : tie\.(?!Need)(\S+?)" + tail + r"\)", code)
         if m:
             place = norm(m.group(2))
             if place not in f.places:
                 answers.append("\n".join(comments + [f.bad(f"place {m.group(2)}"), code]))
                 continue
-            kind = f.new_place[place]
-            code = code[: m.start()] + f"({m.group(1)} : goal.{kind})" + code[m.end() :]
+            kind = f.at(place)
+            code = code[: m.start()] + f"({m.group(1)} : {kind})" + code[m.end() :]
 
             def bare(p, place=place, kind=kind):
-                return "c" if p == place else f"(goal.at.{kind} c).{f.new_place[p]}"
+                return "c" if p == place else f"(goal.at.{kind} c).{f.at(p)}"
 
             name = re.match(r"(?:abbrev )?(?:pub )?(" + ID + ")", code).group(1)
             var = m.group(1)
@@ -221,7 +239,7 @@ def turn(crate, path, table, top):
             env = {var: place}
             if eq and eq.group(1) != var:
                 env[eq.group(1)] = place
-            keep = code.index(f"({var} : goal.{kind})") + len(f"({var} : goal.{kind})")
+            keep = code.index(f"({var} : {kind})") + len(f"({var} : {kind})")
             headpart, rest = code[:keep].replace(f"({var} : ", "(c : "), code[keep:]
             answers.append("\n".join(comments + [headpart + f.text(rest, env, bare)]))
         else:
@@ -233,7 +251,8 @@ def turn(crate, path, table, top):
             h.write("\n".join(head + uses + [f"use Rattle.{crate}.proofs.{f.module}.Given as goal"]) + "\n\n" + "\n\n".join(invariants) + "\n")
     if needs:
         with open(folder + "/Answers.antt", "w", encoding="utf-8") as h:
-            h.write("\n".join(([] if invariants else head) + uses + [f"use Rattle.{crate}.proofs.{f.module}.Goals as goal"]) + "\n\n" + "\n\n".join(answers) + "\n")
+            places = [f"use Rattle.{crate}.proofs.{f.module}.Goals.{{{', '.join(sorted(f.asked))}}}"] if f.asked else []
+            h.write("\n".join(([] if invariants else head) + uses + [f"use Rattle.{crate}.proofs.{f.module}.Goals as goal"] + places) + "\n\n" + "\n\n".join(answers) + "\n")
     os.remove(source)
     for n in f.notes:
         print(f"{crate}::{path}: {n}")

@@ -301,8 +301,7 @@ fn all_seen(seen: [bool; Queue::IDS], reach: [Distance; Queue::HELD]) -> bool
 
 // THE SAME ON A QUEUE THAT IS LENT, for a kernel that holds one queue at a fixed address
 
-#[unsafe(no_mangle)]
-pub extern "C" fn clock_in(q: &mut Queue) -> Refusal
+pub fn clock_in(q: &mut Queue) -> Refusal
     ensures { (result ≡ (clock_of max_gap longest q.old).refusal) × (q.new ≡ (clock_of max_gap longest q.old).queue) }
 {
     let changed = clock(*q);
@@ -318,8 +317,7 @@ pub struct Took {
     pub id: u8,
 }
 
-#[unsafe(no_mangle)]
-pub extern "C" fn take_in(q: &mut Queue) -> Took
+pub fn take_in(q: &mut Queue) -> Took
     ensures { (result ≡ took_of (take_of max_gap longest q.old)) × (q.new ≡ (take_of max_gap longest q.old).queue) }
 {
     let t = take_apart(*q);

@@ -24,6 +24,45 @@ def norm(name):
     return re.sub(r"^loop(\d*)-again", r"loop\1-preserved", name)
 
 
+def lent(callee):
+    """The names of a function's parameters that are `&mut`."""
+    crate, _, name = callee.partition("::")
+    name = name.split("::")[-1]
+    for folder, _, names in os.walk(f"crates/{crate}/src"):
+        for n in names:
+            with open(os.path.join(folder, n), encoding="utf-8") as h:
+                m = re.search(r"fn " + name + r"\(([^)]*)\)", h.read())
+            if m:
+                return [p.split(":")[0].strip() for p in m.group(1).split(",") if "&mut" in p]
+    return []
+
+
+def clause_by_clause(body, names):
+    """The pair that ends a body, as a record of clauses."""
+    text = body.rstrip()
+    if not text.endswith(")"):
+        return body
+    depth = 0
+    for i in range(len(text) - 1, -1, -1):
+        depth += text[i] in ")]}"
+        depth -= text[i] in "([{"
+        if depth == 0:
+            break
+    parts, depth, start = [], 0, i + 1
+    for k in range(i + 1, len(text)):
+        if text[k] in "([{":
+            depth += 1
+        if text[k] in ")]}":
+            depth -= 1
+        if depth == 0 and text[k] == "," or depth < 0:
+            if text[start:k].strip():
+                parts.append(text[start:k].strip())
+            start = k + 1
+    if len(parts) != len(names):
+        return body
+    return text[:i] + "record { " + "; ".join(f"{n} = {p}" for n, p in zip(names, parts)) + " }"
+
+
 class Function:
     def __init__(self, crate, path, table):
         self.crate, self.path, self.t = crate, path, table
@@ -39,8 +78,12 @@ class Function:
         self.args = {}
         for a, b in table["args"]:
             self.args[a.strip()] = b.strip()
+        self.clauses = {norm(p[0]): c for p, c in zip(table["places"], table["clauses"])}
+        self.aliases = {}
         self.notes = []
         self.asked = set()
+        self.own = "Start"
+        self.helpers = {}
 
     def at(self, place):
         """The name of a place's record, which the answers are to import."""
@@ -51,10 +94,19 @@ class Function:
         self.notes.append(what)
         return "««" + what + "»»"
 
+    @staticmethod
+    def is_step(step, field):
+        field = field.replace("type_size", "size_of")
+        return norm(step).lower() in (norm(field).lower(), norm(re.sub(r"_lem$", "", field)).lower())
+
     def argument(self, fields):
         """Fields from the start of the call on: parameters by their names in the source."""
         text = "." + ".".join(fields)
-        text = text.replace(".well-formed", ".well_formed")
+        text = re.sub(r"^\.(well-formed|good)\b", ".well_formed", text)
+        text = re.sub(r"^\.pre\b", ".requires", text)
+        pre = re.match(r"\.requires\.(\d+)", text)
+        if pre and self.t["pre"]:
+            text = ".requires." + self.t["pre"][int(pre.group(1))] + text[pre.end():]
         for a, b in self.args.items():
             flat = a.replace(" ", "")
             if text == flat or text.startswith(flat + "."):
@@ -76,7 +128,7 @@ class Function:
             return bare(place)
         here = self.places[place]
         step = here[2]
-        if step[0] and norm(step[0]) in (norm(fields[0]), norm(re.sub(r"_lem$", "", fields[0]))):
+        if step[0] and self.is_step(step[0], fields[0]):
             rest = fields[1:]
             if rest:
                 for old, new in here[4]:
@@ -85,18 +137,46 @@ class Function:
                         break
                     # `fact` reads as `true` or `false`
             rest = [self.field(f) for f in rest]
+            if rest[:1] == ["ensures"] and len(rest) > 1 and rest[1].isdigit() and self.clauses[place]:
+                rest[1] = self.clauses[place][int(rest[1])]
+            if rest[:1] == ["new"] and len(rest) > 1 and rest[1].isdigit() and here[3]:
+                rest[1] = (lent(here[3]) + ["?"] * 9)[int(rest[1])]
+            if rest[:1] == ["given"]:
+                # what a `match` tells of its value
+                up = self.own
+                while up != "Start" and not self.places[up][2][1].startswith("in-"):
+                    up = norm(self.places[up][1])
+                if up != "Start":
+                    return "c." + self.places[up][2][1] + ".is"
             return "c." + step[1] + "".join("." + f for f in rest)
         if place == "Start":
             return "c" + self.argument(fields)
+        # the chain of places may have another step now: the step goes by its name
+        up = place
+        while up != "Start":
+            up = norm(self.places[up][1])
+            step = self.places[up][2]
+            if step[0] and self.is_step(step[0], fields[0]):
+                return self.resolve(up, fields, bare)
+        if fields[0] in ("args", "requires", "pre", "good", "ranges", "well-formed", "well_formed"):
+            return "c" + self.argument(fields)
+        up = self.own
+        while up != "Start":
+            step = self.places[up][2]
+            if step[0] and self.is_step(step[0], fields[0]):
+                return self.resolve(up, fields, bare)
+            up = norm(self.places[up][1])
         return self.bad(f"{place}: .{'.'.join(fields)}")
 
     @staticmethod
     def field(f):
-        return {"well-formed": "well_formed", "type-inv": "type_inv"}.get(f, f)
+        return {"well-formed": "well_formed", "type-inv": "type_inv", "inv": "invariant", "taken": "true", "left": "false"}.get(f, f)
 
     def text(self, text, env, bare):
         """Turns the paths of a piece of text, whose variables stand at the places of env."""
         env = dict(env)
+        for a in self.aliases:
+            text = re.sub(r"(?<![\w'.-])\(" + re.escape(a) + r" " + ID + r"(?:\.before)*\)", a, text)
         out, at = "", 0
         path = re.compile(r"(?<![\w'.\-])(" + ID + r")((?:\.[\w'-]+)*)(?![\w'])")
         let = re.compile(r"let (" + ID + r") = (" + ID + r")((?:\.[\w'-]+)*) in\s*")
@@ -133,6 +213,12 @@ class Function:
                 return out + text[at:]
             out += text[at : m.start()]
             if m.group(1) in env:
+                # a lemma of this proof is given the record that it is stated over
+                before = re.search(r"(?<![\w'.-])(" + ID + r") \(?$", out)
+                if before and before.group(1) in self.helpers and env[m.group(1)] != "args" and all(x in ("", "before") for x in m.group(2).split(".")):
+                    out += bare(self.helpers[before.group(1)])
+                    at = m.end()
+                    continue
                 out += self.resolve(env[m.group(1)], [f for f in m.group(2).split(".") if f], bare)
             else:
                 out += m.group(0)
@@ -212,7 +298,11 @@ def turn(crate, path, table, top):
             def bare(p, new=new, place=place):
                 return f"(goal.at.{new} c).{f.at(p)}"
 
-            rest = f.text(rest, {b.group(1): place}, bare)
+            f.own = place
+            rest = f.text(rest, {b.group(1): place, **f.aliases}, bare)
+            clauses = {norm(k): v for k, v in table["asked"].items()}.get(old)
+            if clauses:
+                rest = clause_by_clause(rest, clauses)
             answers.append("\n".join(comments + [f"pub {new} : goal.{new}"]) + "\n" + unfold + f"{new} c =\n    " + rest)
             continue
         if re.match(r"(?:abbrev )?(?:pub )?" + ID + r" :.*statement", code) and "tie.close" in code:
@@ -235,9 +325,21 @@ def turn(crate, path, table, top):
             name = re.match(r"(?:abbrev )?(?:pub )?(" + ID + ")", code).group(1)
             var = m.group(1)
             # the equation may name the record otherwise
-            eq = re.search(r"^" + re.escape(name) + r" (\S+)", code, re.M)
+            eq = re.search(r"^" + re.escape(name) + r" (\S+)", code, re.M) if name != "module" else None
             env = {var: place}
-            if eq and eq.group(1) != var:
+            f.own = place
+            f.helpers[name] = place
+            if name == "module":
+                # names of earlier records stand for them
+                alias = re.compile(r"^  abbrev (" + ID + r") : tie\.(\S+?)" + tail + r"\n  \1 = .*\n\n?", re.M)
+                for a in alias.finditer(code + "\n"):
+                    if norm(a.group(2)) in f.places:
+                        f.aliases[a.group(1)] = norm(a.group(2))
+                code = alias.sub("", code + "\n").rstrip("\n")
+                for n in re.findall(r"^  (?:abbrev )?(?:pub )?(" + ID + r") :", code, re.M):
+                    f.helpers[n] = place
+            env.update(f.aliases)
+            if eq and eq.group(1) != var and eq.group(1) != "_":
                 env[eq.group(1)] = place
             keep = code.index(f"({var} : {kind})") + len(f"({var} : {kind})")
             headpart, rest = code[:keep].replace(f"({var} : ", "(c : "), code[keep:]

@@ -21,8 +21,6 @@ use Rattle.table.specs.Meaning.{Sized}
 use Rattle.table.specs.declared.Task.{Task}
 use Rattle.table.specs.declared.Server.{Server}
 use Rattle.table.specs.declared.Table.{Table}
-use Rattle.table.specs.contracts.Server as server
-use Rattle.table.specs.contracts.Table as table
 use Rattle.table.proofs.Soundness.{table_sound}
 use Rattle.setup.specs.Layout.{task_bytes, head_bytes, server_bytes, record_bytes, bytes_of}
 use Rattle.setup.specs.Read.{task_size, head_size}

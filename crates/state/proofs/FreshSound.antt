@@ -10,7 +10,6 @@ use lib.ListN.{length, get_or, get_or-eq_default}
 use borrow.Author.Tests.{ltb-true, ltb-false, leb-true, leb-false, le-leb, eqb-true, eqb-false}
 use Rattle.small.specs.Small.{pick, usedb}
 use Rattle.small.proofs.Tests.{both_left, both_right, neither_left, neither_right, contrary}
-use Rattle.refusal.specs.Refusal.{none}
 use Rattle.queue.specs.Limits.{max_gap, longest, cell_count}
 use Rattle.queue.specs.Row.{Event, event, cells_of, queue_of, events_of, normal}
 use Rattle.queue.specs.Sound.{hasb, soundb}

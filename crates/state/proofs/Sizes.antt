@@ -1,9 +1,9 @@
 -- The lengths of a state's arrays, of which every state that the code holds is sure: a parameter's `.good` is what it knows. Assumes nothing.
 use mathlib.Core.Path.{◌≡◌}
-use mathlib.Core.List.{List, [], ◌∷◌, map}
+use mathlib.Core.List.{List, [], ◌∷◌}
 use Prim.Native.Nat.{ℕ, zero, suc, ◌<◌}
 use native.Mathlib.Omega.{arith}
-use lib.ListN.{length, get_or, length-map}
+use lib.ListN.{length, get_or}
 use mir.Val.{Val}
 use denote.Array.{each}
 use denote.Shadow.{shadow}
@@ -22,14 +22,14 @@ past_entry = record { loads = []; arrivals = record { cells = []; len = 0 }; bud
 
 pub state_eight : (s : State) (vs : List Val) → shadow ((row state.the_type).own_val s vs) → Eight s
 state_eight s vs k = record {
-  servers = rw length-map at k.1.1.1.0.1.1.0.1.0.1;
-  entries = rw length-map at k.1.1.0.1.0.1;
+  servers = k.1.1.1.0.1.1.0.1.0.1;
+  entries = k.1.1.0.1.0.1;
 }
 
-loads_full : (es : List Entry) (us : List Val) (i : ℕ) (z : Entry) → i < length es → shadow (each (entry.the_field).row.Denot (entry.the_field).row.own_val (map (entry.the_type).to es) us) → length (get_or es i z).loads ≡ entries
+loads_full : (es : List Entry) (us : List Val) (i : ℕ) (z : Entry) → i < length es → shadow (each (entry.the_row).Denot (entry.the_row).own_val es us) → length (get_or es i z).loads ≡ entries
 loads_full [] us i z h k = absurd (omega arith)
 loads_full (e ∷ es) [] i z h k = absurd k
-loads_full (e ∷ es) (u ∷ us) zero z h k = rw length-map at k.0.1.1.0.1.0.1
+loads_full (e ∷ es) (u ∷ us) zero z h k = k.0.1.1.0.1.0.1
 loads_full (e ∷ es) (u ∷ us) (suc i) z h k = loads_full es us i z (omega arith) k.1
 
 pub state_loads : (s : State) (vs : List Val) → shadow ((row state.the_type).own_val s vs) → (i : ℕ) (z : Entry) → i < length s.entries → length (get_or s.entries i z).loads ≡ entries

@@ -13,6 +13,7 @@ import re
 import sys
 
 ID = r"[^\W\d][\w'-]*"
+TAIL = r"(?: invariant-loop\d*)*(?: decreases-loop\d*)*(?: (?:invariant|decreases)-loop\d*)*"
 TRIVIAL = re.compile(r"^(omega arith|search rules|tt|cc)$")
 
 
@@ -80,6 +81,7 @@ class Function:
             self.args[a.strip()] = b.strip()
         self.clauses = {norm(p[0]): c for p, c in zip(table["places"], table["clauses"])}
         self.aliases = {}
+        self.steps = {}
         self.notes = []
         self.asked = set()
         self.own = "Start"
@@ -177,6 +179,19 @@ class Function:
         env = dict(env)
         for a in self.aliases:
             text = re.sub(r"(?<![\w'.-])\(" + re.escape(a) + r" " + ID + r"(?:\.before)*\)", a, text)
+        # a record of this block that is named in its `where`
+        local = re.compile(r"^\s+(" + ID + r") : tie\.(\S+?)" + TAIL + r"\n\s+\1 = .*\n\n?", re.M)
+        for a in local.finditer(text):
+            if norm(a.group(2)) in self.places:
+                env[a.group(1)] = norm(a.group(2))
+        text = local.sub("", text)
+        # steps back from a place to one before it, which the proof names
+        for _ in range(9):
+            for n, place in self.steps.items():
+                token = "pl-" + place
+                env[token] = place
+                text = re.sub(r"(?<![\w'.-])\(" + re.escape(n) + r" " + ID + r"(?:\.before)*\)", token, text)
+                text = re.sub(r"(let " + ID + r" = )" + re.escape(n) + r" " + ID + r"(?:\.before)* in", r"\1" + token + " in", text)
         out, at = "", 0
         path = re.compile(r"(?<![\w'.\-])(" + ID + r")((?:\.[\w'-]+)*)(?![\w'])")
         let = re.compile(r"let (" + ID + r") = (" + ID + r")((?:\.[\w'-]+)*) in\s*")
@@ -247,11 +262,18 @@ def turn(crate, path, table, top):
         (uses if line.startswith("use ") else head).append(line)
     uses = [u for u in uses if not re.search(r"\.(Tie as|Statement\.)", u)]
     invariants, answers, dropped = [], [], []
-    tail = r"(?: invariant-loop\d*)*(?: decreases-loop\d*)*(?: invariant-loop\d*| decreases-loop\d*)*"
+    tail = TAIL
     for piece in pieces:
         lines = piece.split("\n")
         comments = [l for l in lines if l.startswith("--")]
         code = "\n".join(l for l in lines if not l.startswith("--"))
+        code = re.sub(r" :\n\s+tie\.", " : tie.", code).replace("Place tie.", "tie.")
+        m = re.match(r"(?:abbrev )?(" + ID + r") : tie\.(\S+) → tie\.(\S+)\n", code)
+        if m and norm(m.group(3)) in f.places:
+            f.steps[m.group(1)] = norm(m.group(3))
+            continue
+        if re.match(r"abbrev Place :", code):
+            continue
         m = re.match(r"(?:abbrev )?(?:pub )?(" + ID + r") : tie\.(invariant|decreases)-(loop\d*)\n", code)
         if m:
             new, names, changed = f.loops[norm(m.group(3))]
@@ -287,7 +309,7 @@ def turn(crate, path, table, top):
             if body.startswith("unfolding"):
                 unfold, body = body.split("\n", 1)
                 unfold += "\n"
-            b = re.match(re.escape(m.group(1)) + r" (\S+)(?: κs)? =\s*", body)
+            b = re.match(re.escape(m.group(1)) + r" (\S+)(?: κs)?((?: \S+)*) =\s*", body)
             if not b:
                 f.bad(f"{m.group(1)}: no equation")
                 continue
@@ -303,7 +325,7 @@ def turn(crate, path, table, top):
             clauses = {norm(k): v for k, v in table["asked"].items()}.get(old)
             if clauses:
                 rest = clause_by_clause(rest, clauses)
-            answers.append("\n".join(comments + [f"pub {new} : goal.{new}"]) + "\n" + unfold + f"{new} c =\n    " + rest)
+            answers.append("\n".join(comments + [f"pub {new} : goal.{new}"]) + "\n" + unfold + f"{new} c{b.group(2)} =\n    " + rest)
             continue
         if re.match(r"(?:abbrev )?(?:pub )?" + ID + r" :.*statement", code) and "tie.close" in code:
             continue

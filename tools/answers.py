@@ -39,29 +39,45 @@ def lent(callee):
 
 
 def clause_by_clause(body, names):
-    """The pair that ends a body, as a record of clauses."""
+    """The pair that a body gives, as a record of clauses."""
     text = body.rstrip()
-    if not text.endswith(")"):
-        return body
+    depth, at = 0, 0
+    for m in re.finditer(r"[(\[{]|[)\]}]|(?<![\w'-])in\s", text):
+        if m.group(0) in "([{":
+            depth += 1
+        elif m.group(0) in ")]}":
+            depth -= 1
+        elif depth == 0:
+            at = m.end()
+    head, tail = text[:at].rstrip() + "\n    " if at else "", text[at:].strip()
+    whole = "record { " + "; ".join(f"{n} = both.{i}" for i, n in enumerate(names)) + " }"
+    if not tail.endswith(")"):
+        return f"{head}let both = {tail} in {whole}" if not re.match(r"(rw|simp|elim|⊎_elim)\b", tail) else body
     depth = 0
-    for i in range(len(text) - 1, -1, -1):
-        depth += text[i] in ")]}"
-        depth -= text[i] in "([{"
+    for i in range(len(tail) - 1, -1, -1):
+        depth += tail[i] in ")]}"
+        depth -= tail[i] in "([{"
         if depth == 0:
             break
+    lead = tail[:i].strip()
+    rewrites = re.match(r"(rw|simp)\b", lead) and not re.match(r"(rw|simp) (\(|[^\s(]+ ?$)", lead) or re.match(r"(rw|simp) (\(.*\)|\S+)$", lead, re.S)
     parts, depth, start = [], 0, i + 1
-    for k in range(i + 1, len(text)):
-        if text[k] in "([{":
+    for k in range(i + 1, len(tail)):
+        if tail[k] in "([{":
             depth += 1
-        if text[k] in ")]}":
+        if tail[k] in ")]}":
             depth -= 1
-        if depth == 0 and text[k] == "," or depth < 0:
-            if text[start:k].strip():
-                parts.append(text[start:k].strip())
+        if depth == 0 and tail[k] == "," or depth < 0:
+            if tail[start:k].strip():
+                parts.append(tail[start:k].strip())
             start = k + 1
-    if len(parts) != len(names):
+    if len(parts) == len(names) and (lead == "" or rewrites):
+        return head + tail[:i] + "record { " + "; ".join(f"{n} = {p}" for n, p in zip(names, parts)) + " }"
+    if rewrites:
+        return head + tail[:i] + f"(let both = {tail[i + 1 : -1]} in {whole})"
+    if re.match(r"(rw|simp|elim|⊎_elim)\b", tail):
         return body
-    return text[:i] + "record { " + "; ".join(f"{n} = {p}" for n, p in zip(names, parts)) + " }"
+    return f"{head}let both = {tail} in {whole}"
 
 
 class Function:
@@ -79,7 +95,8 @@ class Function:
         self.args = {}
         for a, b in table["args"]:
             self.args[a.strip()] = b.strip()
-        self.clauses = {norm(p[0]): c for p, c in zip(table["places"], table["clauses"])}
+        self.clauses = {norm(p[0]): c and c["fields"] for p, c in zip(table["places"], table["clauses"])}
+        self.arms = [(norm(p[0]), a[0], a[2]) for p, a in zip(table["places"], table["arms"]) if a]
         self.aliases = {}
         self.steps = {}
         self.notes = []
@@ -122,9 +139,7 @@ class Function:
             return "c" + self.argument(["args"] + fields)
         while fields and fields[0] == "before":
             parent = self.places[place][1]
-            if parent is None:
-                return self.bad("before the start: " + ".".join(fields))
-            place = norm(parent)
+            place = norm(parent) if parent else place
             fields.pop(0)
         if not fields:
             return bare(place)
@@ -139,6 +154,13 @@ class Function:
                         break
                     # `fact` reads as `true` or `false`
             rest = [self.field(f) for f in rest]
+            if rest == ["ensures"] and self.clauses[place]:
+                return "(" + ", ".join(f"c.{step[1]}.ensures.{n}" for n in self.clauses[place]) + ")"
+            for _, arm, names in self.arms:
+                # what an arm's pattern names, and what it says of the value
+                for new, old, way in names:
+                    if way and norm(old) == norm(step[0]) and rest[: len(way)] == way:
+                        return f"c.{arm}.{new}" + "".join("." + x for x in rest[len(way) :])
             if rest[:1] == ["ensures"] and len(rest) > 1 and rest[1].isdigit() and self.clauses[place]:
                 rest[1] = self.clauses[place][int(rest[1])]
             if rest[:1] == ["new"] and len(rest) > 1 and rest[1].isdigit() and here[3]:
@@ -168,6 +190,8 @@ class Function:
             if step[0] and self.is_step(step[0], fields[0]):
                 return self.resolve(up, fields, bare)
             up = norm(self.places[up][1])
+        if re.search(r"\d$", fields[0]):
+            return self.resolve(place, [re.sub(r"\d+$", "", fields[0])] + fields[1:], bare)
         return self.bad(f"{place}: .{'.'.join(fields)}")
 
     @staticmethod
@@ -205,7 +229,7 @@ class Function:
                     if all(f == "before" for f in fs):
                         place = env[base]
                         for _ in fs:
-                            place = norm(self.places[place][1] or "")
+                            place = norm(self.places[place][1] or place)
                         out += text[at : l.start()]
                         env[name] = place
                         at = l.end()

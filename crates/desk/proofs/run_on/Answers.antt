@@ -6,7 +6,6 @@ use mathlib.Core.List.{[]}
 use Prim.Native.Nat.{ℕ, ◌+◌, ◌-◌, ◌≤◌}
 use native.Mathlib.Omega.{arith}
 use lib.Dec.{ltb, eqb}
-use borrow.Author.Rules.{rules}
 use Rattle.small.specs.Small.{pick}
 use Rattle.refusal.specs.Numbers.{ticks_passed, unsound}
 use Rattle.refusal.specs.Refusal.{refused}
@@ -20,8 +19,8 @@ use Rattle.desk.specs.Desk.{tick_limit, desk_with, ran_with, ran_of}
 use Rattle.desk.specs.declared.Desk.{Desk}
 use Rattle.desk.specs.declared.Ran.{Ran}
 use Rattle.desk.proofs.Counts.{count_most, due, due_few}
-use Rattle.desk.proofs.run_on.Statement.{statement}
-use Rattle.desk.proofs.run_on.Tie as tie
+use Rattle.desk.proofs.run_on.Goals as goal
+use Rattle.desk.proofs.run_on.Goals.{After-run-b}
 
 -- the scheduler's answer to a state that is not sound
 run-unsound : (s : State) (k : ℕ) → stateb s ≡ false → run_of s k ≡ batch_with (refused unsound 0) [] 0 s
@@ -53,73 +52,37 @@ made-is d = go (stateb d.state) refl (ltb tick_limit (d.ran + d.left)) refl
     go false e c f = rw (e, run-unsound d.state (due d.ran d.left) e, none-run, all_left)
 
 -- how many ticks the batch has
-count : (c : tie.After-run) → let d = c.before.before.args.d in (c.run.result.count ≤ due d.ran d.left) × (c.run.result.count ≤ batch_size)
+count : (c : After-run-b) → let d = c.args.d in (c.run-b.result.count ≤ due d.ran d.left) × (c.run-b.result.count ≤ batch_size)
 count c =
-    let most = count_most c.before.before.args.d.state c.before.due-ticks.result in
-    rw c.run.ensures (omega (arith, most.0, c.before.due-ticks.ensures), most.1)
+    let most = count_most c.args.d.state c.due_ticks-k.result in
+    rw c.run-b.ensures (omega (arith, most.0, c.due_ticks-k.ensures), most.1)
 
-due-ticks-requires : tie.Need-due-ticks-requires
-due-ticks-requires c κs = search rules
+pub overflow_cast-n : goal.overflow_cast-n
+overflow_cast-n c =
+    omega (arith, (count (goal.at.overflow_cast-n c).After-run-b).1)
 
-run-requires : tie.Need-run-requires
-run-requires c κs = search rules
+pub overflow_add-d : goal.overflow_add-d
+overflow_add-d c =
+    let d = c.args.d in
+    omega (arith, (count (goal.at.overflow_add-d c).After-run-b).0, (due_few d.ran d.left 4294967295 (omega arith) (omega (arith, c.struct_known-1.given))).1)
 
-batch-number-requires : tie.Need-batch-number-requires
-batch-number-requires c κs = search rules
+pub overflow_cast-n-2 : goal.overflow_cast-n-2
+overflow_cast-n-2 c =
+    omega (arith, (count (goal.at.overflow_cast-n-2 c).After-run-b).1)
 
-cast-with-state : tie.Need-overflow-cast-with-state
-cast-with-state c = omega (arith, (count c.before.before.before).1)
+pub overflow_sub-d : goal.overflow_sub-d
+overflow_sub-d c =
+    let d = c.args.d in
+    omega (arith, (count (goal.at.overflow_sub-d c).After-run-b).0, (due_few d.ran d.left 4294967295 (omega arith) (omega (arith, c.struct_known-1.given))).0)
 
-add-with-state : tie.Need-overflow-add-with-state
-add-with-state c =
-    let r = c.before.before.before.before in
-    let d = r.before.before.args.d in
-    omega (arith, (count r).0, (due_few d.ran d.left 4294967295 (omega arith) (omega (arith, c.struct_known.given))).1)
-
-cast-with-state-2 : tie.Need-overflow-cast-with-state-2
-cast-with-state-2 c = omega (arith, (count c.before.before.before.before).1)
-
-sub-with-state : tie.Need-overflow-sub-with-state
-sub-with-state c =
-    let r = c.before.before.before.before.before in
-    let d = r.before.before.args.d in
-    omega (arith, (count r).0, (due_few d.ran d.left 4294967295 (omega arith) (omega (arith, c.before.struct_known.given))).0)
-
-with-state-requires : tie.Need-with-state-requires
-with-state-requires c κs = search rules
-
-numbered-requires : tie.Need-numbered-requires
-numbered-requires c κs = search rules
-
-first-of-requires : tie.Need-first-of-requires
-first-of-requires c κs = search rules
-
-returns : tie.Need-returns
+pub returns : goal.returns
 returns c =
-    let n = c.before.before.before.before.before in
-    let r = n.before.before.before in
     rw (
       c.first_of.ensures,
-      c.before.numbered.ensures,
-      c.before.before.with-state.ensures,
-      n.batch-number.ensures,
-      r.run.ensures,
-      r.before.due-ticks.ensures,
+      c.numbered.ensures,
+      c.with_state.ensures,
+      c.batch_number-number.ensures,
+      c.run-b.ensures,
+      c.due_ticks-k.ensures,
     )
-    (sym (made-is r.before.before.args.d))
-
-pub run-on-spec : {M : Type 1} → statement M
-run-on-spec =
-    tie.close
-    (tie.spec
-    due-ticks-requires
-    run-requires
-    batch-number-requires
-    cast-with-state
-    add-with-state
-    cast-with-state-2
-    sub-with-state
-    with-state-requires
-    numbered-requires
-    first-of-requires
-    returns)
+    (sym (made-is c.args.d))

@@ -1,9 +1,9 @@
 -- How many words each thing takes: all that its layout says, where its arrays have all their entries, as every value that the code holds has. Assumes nothing.
 use mathlib.Core.Path.{◌≡◌, refl}
-use mathlib.Core.List.{List, [], ◌∷◌, map}
+use mathlib.Core.List.{List, [], ◌∷◌}
 use Prim.Native.Nat.{ℕ, zero, suc, ◌+◌, ◌*◌, ◌<◌}
 use native.Mathlib.Omega.{arith}
-use lib.ListN.{length, drop, get_or, length-append, length-map}
+use lib.ListN.{length, drop, get_or, length-append}
 use lib.Seq.{take-length}
 use mir.Val.{Val}
 use denote.Array.{each as owned}
@@ -52,30 +52,30 @@ pub record FullState (s : State) : Type 0 where
   pub entries : All FullEntry s.entries
 
 -- what the code knows of an array of servers, and of one of entries
-servers_full : (ss : List Server) (us : List Val) → shadow (owned (server.the_field).row.Denot (server.the_field).row.own_val (map (server.the_type).to ss) us)
+servers_full : (ss : List Server) (us : List Val) → shadow (owned (server.the_row).Denot (server.the_row).own_val ss us)
     → All FullServer ss
 servers_full [] us k = tt
 servers_full (s ∷ ss) [] k = absurd k
-servers_full (s ∷ ss) (u ∷ us) k = (record { tasks = rw length-map at k.0.1.1.0.1.0.1 }, servers_full ss us k.1)
+servers_full (s ∷ ss) (u ∷ us) k = (record { tasks = k.0.1.1.0.1.0.1 }, servers_full ss us k.1)
 
-entries_full : (es : List Entry) (us : List Val) → shadow (owned (entry.the_field).row.Denot (entry.the_field).row.own_val (map (entry.the_type).to es) us)
+entries_full : (es : List Entry) (us : List Val) → shadow (owned (entry.the_row).Denot (entry.the_row).own_val es us)
     → All FullEntry es
 entries_full [] us k = tt
 entries_full (e ∷ es) [] k = absurd k
 entries_full (e ∷ es) (u ∷ us) k = (
-  record { loads = rw length-map at k.0.1.1.0.1.0.1; cells = rw length-map at k.0.1.1.1.0.1.1.0.1.0.1 },
+  record { loads = k.0.1.1.0.1.0.1; cells = k.0.1.1.1.0.1.1.0.1.0.1 },
   entries_full es us k.1,
 )
 
 -- every table and every state that the code holds is full: a parameter's `.good` is what it knows
 pub table_full : (t : Table) (vs : List Val) → shadow ((row table.the_type).own_val t vs) → FullTable t
-table_full t vs k = record { count = rw length-map at k.1.1.0.1.0.1; servers = servers_full t.servers _ k.1.1.0.1.1 }
+table_full t vs k = record { count = k.1.1.0.1.0.1; servers = servers_full t.servers _ k.1.1.0.1.1 }
 
 pub state_full : (s : State) (vs : List Val) → shadow ((row state.the_type).own_val s vs) → FullState s
 state_full s vs k = record {
-  table = record { count = rw length-map at k.1.1.1.0.1.1.0.1.0.1; servers = servers_full s.table.servers _ k.1.1.1.0.1.1.0.1.1 };
-  cells = rw length-map at k.1.1.1.1.0.1.1.0.1.0.1;
-  count = rw length-map at k.1.1.0.1.0.1;
+  table = record { count = k.1.1.1.0.1.1.0.1.0.1; servers = servers_full s.table.servers _ k.1.1.1.0.1.1.0.1.1 };
+  cells = k.1.1.1.1.0.1.1.0.1.0.1;
+  count = k.1.1.0.1.0.1;
   entries = entries_full s.entries _ k.1.1.0.1.1;
 }
 

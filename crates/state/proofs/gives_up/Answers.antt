@@ -2,7 +2,7 @@
 use mathlib.Core.Path.{◌≡◌, sym}
 use mathlib.Core.Bool.{not}
 use native.Mathlib.Omega.{arith}
-use borrow.Author.Tests.{eq-eqb, ne_eqb, le-ltb, lt-ltb}
+use borrow.Author.Tests.{eq-eqb, le-ltb, lt-ltb}
 use lib.ListN.{length}
 use Rattle.small.proofs.Tests.{both_true, both_false}
 use Rattle.table.specs.Limits.{entries}
@@ -14,10 +14,6 @@ use Rattle.state.proofs.gives_up.Goals.{Start}
 
 full : (c : Start) → length c.args.e.loads ≡ entries
 full c = c.well_formed.1.0.1.1.0.1.0.1
-
-pub returns-then-kind-ne-POLLING : goal.returns-then-kind-ne-POLLING
-returns-then-kind-ne-POLLING c =
-    rw (ne_eqb c.args.kind 3 c.if-kind-ne-POLLING.true)
 
 pub returns-then-b-eq0 : goal.returns-then-b-eq0
 returns-then-b-eq0 c =

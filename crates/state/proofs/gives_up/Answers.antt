@@ -23,4 +23,5 @@ returns-then-b-eq0 c =
 pub returns : goal.returns
 returns c =
     let e = c.args.e in
-    rw (eq-eqb c.args.kind 3 c.if-kind-ne-POLLING.false, lt-ltb 0 e.budget.0 (omega arith), both_true (not (some_pending e.loads)), none_first e.loads, full (goal.at.returns c).Start, c.first_pending.ensures)
+    let polling : c.args.kind ≡ 3 = omega arith in
+    rw (eq-eqb c.args.kind 3 polling, lt-ltb 0 e.budget.0 (omega arith), both_true (not (some_pending e.loads)), none_first e.loads, full (goal.at.returns c).Start, c.first_pending.ensures)

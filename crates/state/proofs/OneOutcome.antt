@@ -5,7 +5,7 @@ use Rattle.state.proofs.fresh.Reads as fresh
 use Rattle.state.proofs.sound.Reads as sound
 use Rattle.state.proofs.first_pending.Reads as first_pending_lem
 use Rattle.state.proofs.chosen.Reads as chosen
-use Rattle.state.proofs.gives_up.Reads as Gives-up
+use Rattle.state.proofs.gives_up.Reads as gives-up
 use Rattle.state.proofs.given_up.Reads as given-up
 
 pub fresh_one : One fresh.Post (λ κs x e. x)
@@ -20,7 +20,7 @@ first_pending_one κs a x y e f p q = same p q
 pub chosen_one : One chosen.Post (λ κs x e. x)
 chosen_one κs a x y e f p q = same p q
 
-pub gives_up_one : One Gives-up.Post (λ κs x e. x)
+pub gives_up_one : One gives-up.Post (λ κs x e. x)
 gives_up_one κs a x y e f p q = same p q
 
 pub given_up_one : One given-up.Post (λ κs x e. x)

@@ -23,8 +23,8 @@ number : (c : After-arrive-a) → c.arrive-a.result.refusal.number ≡ (arrive_o
 number c = ap (λ (x : Arrived). x.refusal.number) c.arrive-a.ensures
 
 -- past the first test the state is sound
-sound-here : (c : Else-refusal-eq-UNSOUND) → stateb c.args.d.state ≡ true
-sound-here c =
+sound_here : (c : Else-refusal-eq-UNSOUND) → stateb c.args.d.state ≡ true
+sound_here c =
     arrive_sound_by c.args.d.state c.args.server c.args.task (λ e. c.if-refusal-eq-UNSOUND.false (number (goal.at.Else-refusal-eq-UNSOUND c).After-arrive-a ∙ e))
 
 pub returns-then-refusal-eq-UNSOUND : goal.returns-then-refusal-eq-UNSOUND
@@ -40,18 +40,18 @@ pub returns-then-refusal-ne0 : goal.returns-then-refusal-ne0
 unfolding arrived_of
 returns-then-refusal-ne0 c =
     let a = c.arrive-a in
-    rw (sound-here (goal.at.returns-then-refusal-ne0 c).Else-refusal-eq-UNSOUND, c.goes_on.ensures, c.with_state-next.ensures, ← a.ensures, ne_eqb a.result.refusal.number 0 c.if-refusal-ne0.true)
+    rw (sound_here (goal.at.returns-then-refusal-ne0 c).Else-refusal-eq-UNSOUND, c.goes_on.ensures, c.with_state-next.ensures, ← a.ensures, ne_eqb a.result.refusal.number 0 c.if-refusal-ne0.true)
 
 pub returns-in-Accepted : goal.returns-in-Accepted
 unfolding arrived_of
 returns-in-Accepted c =
     let a = c.arrive-a in
     let none = eq-eqb a.result.refusal.number 0 c.if-refusal-ne0.false in
-    rw (sound-here (goal.at.returns-in-Accepted c).Else-refusal-eq-UNSOUND, c.goes_on-in-Accepted.ensures, c.with_state-next.ensures, ← a.ensures, none, c.in-Accepted.is)
+    rw (sound_here (goal.at.returns-in-Accepted c).Else-refusal-eq-UNSOUND, c.goes_on-in-Accepted.ensures, c.with_state-next.ensures, ← a.ensures, none, c.in-Accepted.is)
 
 pub returns-in-Lost : goal.returns-in-Lost
 unfolding arrived_of
 returns-in-Lost c =
     let a = c.arrive-a in
     let none = eq-eqb a.result.refusal.number 0 c.if-refusal-ne0.false in
-    rw (sound-here (goal.at.returns-in-Lost c).Else-refusal-eq-UNSOUND, c.goes_on-in-Lost.ensures, c.with_state-next.ensures, ← a.ensures, none, c.in-Lost.is)
+    rw (sound_here (goal.at.returns-in-Lost c).Else-refusal-eq-UNSOUND, c.goes_on-in-Lost.ensures, c.with_state-next.ensures, ← a.ensures, none, c.in-Lost.is)

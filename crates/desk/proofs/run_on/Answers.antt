@@ -23,9 +23,9 @@ use Rattle.desk.proofs.run_on.Goals as goal
 use Rattle.desk.proofs.run_on.Goals.{After-run-b}
 
 -- the scheduler's answer to a state that is not sound
-run-unsound : (s : State) (k : ℕ) → stateb s ≡ false → run_of s k ≡ batch_with (refused unsound 0) [] 0 s
+run_unsound : (s : State) (k : ℕ) → stateb s ≡ false → run_of s k ≡ batch_with (refused unsound 0) [] 0 s
 unfolding run_of
-run-unsound s k e = rw e
+run_unsound s k e = rw e
 
 -- the refusal by the scheduler's, and what the code makes of its answer b
 abbrev number_by : Desk → ℕ → ℕ
@@ -36,20 +36,20 @@ made_of d b =
     let n = number_by d b.refusal.number in
     ran_with (refused n 0) b.answers (desk_with b.state (d.ran + b.count) (d.left - b.count)) (pick (eqb n 0) d.ran 0) b.count
 
-made-is : (d : Desk) → ran_of d ≡ made_of d (run_of d.state (due d.ran d.left))
+made_is : (d : Desk) → ran_of d ≡ made_of d (run_of d.state (due d.ran d.left))
 unfolding ran_of
-made-is d = go (stateb d.state) refl (ltb tick_limit (d.ran + d.left)) refl
+made_is d = go (stateb d.state) refl (ltb tick_limit (d.ran + d.left)) refl
   where
-    none-run : d.ran + 0 ≡ d.ran
-    none-run = omega arith
+    none_run : d.ran + 0 ≡ d.ran
+    none_run = omega arith
 
     all_left : d.left - 0 ≡ d.left
     all_left = omega arith
 
     go : (b : Bool) → stateb d.state ≡ b → (c : Bool) → ltb tick_limit (d.ran + d.left) ≡ c → ran_of d ≡ made_of d (run_of d.state (due d.ran d.left))
-    go true e true f = rw (e, f, run_done d.state 0 ((run_accepted d.state 0).1 e), none-run, all_left)
+    go true e true f = rw (e, f, run_done d.state 0 ((run_accepted d.state 0).1 e), none_run, all_left)
     go true e false f = rw (e, f, run_done d.state d.left ((run_accepted d.state d.left).1 e))
-    go false e c f = rw (e, run-unsound d.state (due d.ran d.left) e, none-run, all_left)
+    go false e c f = rw (e, run_unsound d.state (due d.ran d.left) e, none_run, all_left)
 
 -- how many ticks the batch has
 count : (c : After-run-b) → let d = c.args.d in (c.run-b.result.count ≤ due d.ran d.left) × (c.run-b.result.count ≤ batch_size)
@@ -85,4 +85,4 @@ returns c =
       c.run-b.ensures,
       c.due_ticks-k.ensures,
     )
-    (sym (made-is c.args.d))
+    (sym (made_is c.args.d))

@@ -7,16 +7,16 @@ use Rattle.desk.proofs.unread.Goals as goal
 use Rattle.desk.proofs.unread.Goals.{Else-not-sound, Then-not-sound}
 
 -- what the test of the state says
-unsound-here : (c : Then-not-sound) → stateb c.args.d.state ≡ false
-unsound-here c = sym c.sound.ensures ∙ not-true c.sound.result c.if-not-sound.true-raw
+unsound_here : (c : Then-not-sound) → stateb c.args.d.state ≡ false
+unsound_here c = sym c.sound.ensures ∙ not-true c.sound.result c.if-not-sound.true-raw
 
-sound-here : (c : Else-not-sound) → stateb c.args.d.state ≡ true
-sound-here c = sym c.sound.ensures ∙ not-false c.sound.result c.if-not-sound.false-raw
+sound_here : (c : Else-not-sound) → stateb c.args.d.state ≡ true
+sound_here c = sym c.sound.ensures ∙ not-false c.sound.result c.if-not-sound.false-raw
 
 pub returns-then-not-sound : goal.returns-then-not-sound
 returns-then-not-sound c =
-    rw (unsound-here (goal.at.returns-then-not-sound c).Then-not-sound) c.stopped.ensures
+    rw (unsound_here (goal.at.returns-then-not-sound c).Then-not-sound) c.stopped.ensures
 
 pub returns : goal.returns
 returns c =
-    rw (sound-here (goal.at.returns c).Else-not-sound) c.stopped-2.ensures
+    rw (sound_here (goal.at.returns c).Else-not-sound) c.stopped-2.ensures

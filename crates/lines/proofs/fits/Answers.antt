@@ -9,8 +9,8 @@ use borrow.Author.Tests.{leb-true, leb-false, le-leb, lt-leb}
 use Rattle.lines.proofs.fits.Goals as goal
 
 -- n more than a is at most l, or a is at most n less than l
-less-more : (a n l : ℕ) → n ≤ l → leb a (l - n) ≡ leb (a + n) l
-less-more a n l h = go (leb (a + n) l) refl
+less_more : (a n l : ℕ) → n ≤ l → leb a (l - n) ≡ leb (a + n) l
+less_more a n l h = go (leb (a + n) l) refl
   where
     go : (b : Bool) → leb (a + n) l ≡ b → leb a (l - n) ≡ b
     go true e = le-leb a (l - n) (omega (arith, leb-true (a + n) l e))
@@ -22,4 +22,4 @@ returns-then-out-n c =
 
 pub returns : goal.returns
 returns c =
-    less-more c.args.at c.args.n (length c.args.out.now) (omega arith)
+    less_more c.args.at c.args.n (length c.args.out.now) (omega arith)

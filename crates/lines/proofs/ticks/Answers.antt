@@ -14,8 +14,8 @@ use Rattle.lines.proofs.Batch.{lines_more, lines_least, lines_length, lines_next
 use Rattle.lines.proofs.ticks.Goals as goal
 use Rattle.lines.proofs.ticks.Goals.{After-least-n, Joined-not-fits, then-not-fits+else-not-fits-2, else-not-fits}
 
-abbrev zero-answer : Answer
-zero-answer = record { choice = Idle; handled = 0 }
+abbrev zero_answer : Answer
+zero_answer = record { choice = Idle; handled = 0 }
 
 -- as many lines as are written are all that are asked for
 few : (c : After-least-n) → c.least-n.result ≤ batch_size
@@ -61,7 +61,7 @@ tick-p-requires c =
     let l = c.loop-i in
     let i : l.i < length c.args.answers = omega (arith, c.well_formed.1.1.1.0.1.0.1) in
     let n = c.least-n.result in
-    let next = lines_next c.args.first l.i n c.args.answers zero-answer (omega arith) i in
+    let next = lines_next c.args.first l.i n c.args.answers zero_answer (omega arith) i in
     omega (arith, left (goal.at.tick-p-requires c).Joined-not-fits, next, l.invariant.2.0, puts_length _ _ _ l.invariant.2)
 
 pub loop-i-preserved : goal.loop-i-preserved
@@ -69,10 +69,10 @@ loop-i-preserved c =
     let l = c.loop-i in
     let i : l.i < length c.args.answers = omega (arith, c.well_formed.1.1.1.0.1.0.1) in
     let n = c.least-n.result in
-    let next = lines_next c.args.first l.i n c.args.answers zero-answer (omega arith) i in (
+    let next = lines_next c.args.first l.i n c.args.answers zero_answer (omega arith) i in (
       omega arith,
       l.invariant.1,
-      rw (add-one, lines_more c.args.first l.i c.args.answers zero-answer i)
+      rw (add-one, lines_more c.args.first l.i c.args.answers zero_answer i)
           (puts_two c.args.at _ _ c.args.out.now (omega (arith, left (goal.at.loop-i-preserved c).Joined-not-fits, next)) l.invariant.2 (c.tick-p.ensures.answer, c.tick-p.ensures.buffer)),
     )
 

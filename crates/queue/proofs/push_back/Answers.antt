@@ -21,11 +21,11 @@ known c = sym c.sound.ensures ∙ not-false c.sound.result c.if-not-sound.false-
 is_sound : (c : Else-not-sound) → Sound max_gap longest c.args.q
 is_sound c = sound_is max_gap longest c.args.q (known c)
 
-over-is : (c : After-no_room_before) → overfull max_gap (later (events_of c.args.q)) ≡ c.no_room_before.result
-over-is c = push_overfull max_gap longest c.args.q (omega arith) (is_sound (goal.at.After-no_room_before c).Else-not-sound) ∙ sym c.no_room_before.ensures
+over_is : (c : After-no_room_before) → overfull max_gap (later (events_of c.args.q)) ≡ c.no_room_before.result
+over_is c = push_overfull max_gap longest c.args.q (omega arith) (is_sound (goal.at.After-no_room_before c).Else-not-sound) ∙ sym c.no_room_before.ensures
 
-far-is : (c : After-end_of) → farb longest (events_of c.args.q) ≡ eqb c.end_of.result longest
-far-is c =
+far_is : (c : After-end_of) → farb longest (events_of c.args.q) ≡ eqb c.end_of.result longest
+far_is c =
     far_end max_gap longest c.args.q (omega arith) (is_sound (goal.at.After-end_of c).Else-not-sound) (omega arith)
     ∙ ap (λ (d : ℕ). eqb d longest) (sym c.end_of.ensures)
 
@@ -38,7 +38,7 @@ returns-then-not-sound c =
 pub returns-then-no_room_before : goal.returns-then-no_room_before
 unfolding push_back_of
 returns-then-no_room_before c =
-    c.refuse-then-no_room_before.ensures ∙ rw (known (goal.at.returns-then-no_room_before c).Else-not-sound, over-is (goal.at.returns-then-no_room_before c).After-no_room_before, c.if-no_room_before.true)
+    c.refuse-then-no_room_before.ensures ∙ rw (known (goal.at.returns-then-no_room_before c).Else-not-sound, over_is (goal.at.returns-then-no_room_before c).After-no_room_before, c.if-no_room_before.true)
 
 pub end_of-requires : goal.end_of-requires
 end_of-requires c =
@@ -47,7 +47,7 @@ end_of-requires c =
 pub returns-then-end_of-eq-LONGEST : goal.returns-then-end_of-eq-LONGEST
 unfolding push_back_of
 returns-then-end_of-eq-LONGEST c =
-    c.refuse-then-end_of-eq-LONGEST.ensures ∙ rw (known (goal.at.returns-then-end_of-eq-LONGEST c).Else-not-sound, over-is (goal.at.returns-then-end_of-eq-LONGEST c).After-no_room_before, c.if-no_room_before.false, far-is (goal.at.returns-then-end_of-eq-LONGEST c).After-end_of, eq-eqb c.end_of.result longest c.if-end_of-eq-LONGEST.true)
+    c.refuse-then-end_of-eq-LONGEST.ensures ∙ rw (known (goal.at.returns-then-end_of-eq-LONGEST c).Else-not-sound, over_is (goal.at.returns-then-end_of-eq-LONGEST c).After-no_room_before, c.if-no_room_before.false, far_is (goal.at.returns-then-end_of-eq-LONGEST c).After-end_of, eq-eqb c.end_of.result longest c.if-end_of-eq-LONGEST.true)
 
 pub pushed-requires : goal.pushed-requires
 pushed-requires c =
@@ -61,4 +61,4 @@ returns c =
     let p = push_events max_gap longest q (omega arith) (is_sound (goal.at.returns c).Else-not-sound) in
     let e : c.pushed.result ≡ queue_of (normal max_gap 0 (later (events_of q))) = c.pushed.ensures ∙ ap queue_of p in
     c.accept.ensures
-    ∙ rw (known (goal.at.returns c).Else-not-sound, over-is (goal.at.returns c).After-no_room_before, c.if-no_room_before.false, far-is (goal.at.returns c).After-end_of, ne_eqb c.end_of.result longest c.if-end_of-eq-LONGEST.false) (ap accepted_with e)
+    ∙ rw (known (goal.at.returns c).Else-not-sound, over_is (goal.at.returns c).After-no_room_before, c.if-no_room_before.false, far_is (goal.at.returns c).After-end_of, ne_eqb c.end_of.result longest c.if-end_of-eq-LONGEST.false) (ap accepted_with e)

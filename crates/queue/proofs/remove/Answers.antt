@@ -49,11 +49,11 @@ unfolding behind_of
 row c =
     c.find-f.ensures.row (found (goal.at.After-chain_to-then c).Else-not-f) max_gap ∙ rw ((next (goal.at.After-chain_to-then c).After-next_event-n).tail max_gap c.find-f.result.last, c.chain_to-then.ensures)
 
-then-length : (c : After-chain_to-then) → length (then c) ≡ c.chain_to-then.result.cells
-then-length c = links_length max_gap c.chain_to-then.result.cells c.next_event-n.result.id c.chain_to-then.result.gap
+then_length : (c : After-chain_to-then) → length (then c) ≡ c.chain_to-then.result.cells
+then_length c = links_length max_gap c.chain_to-then.result.cells c.next_event-n.result.id c.chain_to-then.result.gap
 
-tail-length : (c : After-chain_to-then) → length (tail c) ≡ c.args.q.len - c.next_event-n.result.behind
-tail-length c =
+tail_length : (c : After-chain_to-then) → length (tail c) ≡ c.args.q.len - c.next_event-n.result.behind
+tail_length c =
     let q = c.args.q in
     rw (length-drop, cells_length q (sound_full max_gap longest q (is_sound (goal.at.After-chain_to-then c).Else-not-sound)) (is_sound (goal.at.After-chain_to-then c).Else-not-sound).short)
 
@@ -65,7 +65,7 @@ fewer c =
     let h : length (take c.find-f.result.start (cells_of c.args.q)) ≡ c.find-f.result.start =
     length-take-le c.find-f.result.start (cells_of c.args.q) (omega (arith, c.find-f.ensures.start_by, c.find-f.ensures.in_row)) in
     let k : length (remove_cells max_gap c.args.id (cells_of c.args.q)) ≡ c.find-f.result.start + (c.chain_to-then.result.cells + (c.args.q.len - c.next_event-n.result.behind)) =
-    ap length (row c) ∙ rw (length-append (take c.find-f.result.start (cells_of c.args.q)) (then c ++ tail c), h, length-append (then c) (tail c), then-length c, tail-length c) in
+    ap length (row c) ∙ rw (length-append (take c.find-f.result.start (cells_of c.args.q)) (then c ++ tail c), h, length-append (then c) (tail c), then_length c, tail_length c) in
     omega (arith, remove_fewer max_gap longest c.args.q s c.args.id (omega arith), (next (goal.at.After-chain_to-then c).After-next_event-n).within)
 
 made : (c : After-linked) → c.linked.result ≡ formed max_gap (without_event c.args.id (events_of c.args.q))
@@ -80,8 +80,8 @@ made c =
     let k = q.len - m in
     let zs = replicate k (cell 0 0) in
     let l = cells_length q full s.short in
-    let lh = then-length (goal.at.After-linked c).After-chain_to-then in
-    let lt = tail-length (goal.at.After-linked c).After-chain_to-then in
+    let lh = then_length (goal.at.After-linked c).After-chain_to-then in
+    let lt = tail_length (goal.at.After-linked c).After-chain_to-then in
     let lx : length (then (goal.at.After-linked c).After-chain_to-then ++ tail (goal.at.After-linked c).After-chain_to-then) ≡ c.chain_to-then.result.cells + (q.len - c.next_event-n.result.behind) = rw (length-append, lh, lt) in
     let by : i ≤ q.len = omega (arith, c.find-f.ensures.start_by, c.find-f.ensures.in_row) in
     let e : sets (sets (sets q.cells to (tail (goal.at.After-linked c).After-chain_to-then)) m zs) i (then (goal.at.After-linked c).After-chain_to-then) ≡ sets q.cells i ((then (goal.at.After-linked c).After-chain_to-then ++ tail (goal.at.After-linked c).After-chain_to-then) ++ zs) =

@@ -29,24 +29,24 @@ state_sound : (c : Else-not-sound) → stateb c.args.s ≡ true
 state_sound c = sym c.sound.ensures ∙ not-false c.sound.result c.if-not-sound.false-raw
 
 -- there is such a server, and the code reads the one that the definition reads
-server-there : (c : Else-table-i) → c.args.server < entries
-server-there c =
+server_there : (c : Else-table-i) → c.args.server < entries
+server_there c =
     let few = ((stated c.args.s (eight (goal.at.Else-table-i c).Start)).0 (state_sound (goal.at.Else-table-i c).Else-not-sound)).servers.count in
     omega arith
 
 server_read : (c : Else-table-i) → get_or c.args.s.table.servers c.args.server past_server ≡ server_at c.args.s c.args.server
 server_read c =
     let z = eight (goal.at.Else-table-i c).Start in
-    let h = server-there c in
+    let h = server_there c in
     get_or_inside c.args.s.table.servers c.args.server past_server zero_server (omega arith)
 
 -- and such a task
-task-there : (c : Else-entry-j) → c.args.task < (server_at c.args.s c.args.server).count
-task-there c = rw (server_read (goal.at.Else-entry-j c).Else-table-i) at c.if-entry-j.false
+task_there : (c : Else-entry-j) → c.args.task < (server_at c.args.s c.args.server).count
+task_there c = rw (server_read (goal.at.Else-entry-j c).Else-table-i) at c.if-entry-j.false
 
 here : (c : Else-entry-j) → Reached c.args.s c.args.server c.args.task
 here c =
-    reached c.args.s c.args.server c.args.task (eight (goal.at.Else-entry-j c).Start) (state_sound (goal.at.Else-entry-j c).Else-not-sound) c.if-table-i.false (task-there c)
+    reached c.args.s c.args.server c.args.task (eight (goal.at.Else-entry-j c).Start) (state_sound (goal.at.Else-entry-j c).Else-not-sound) c.if-table-i.false (task_there c)
 
 entry_read : (c : Else-entry-j) → get_or c.args.s.entries c.args.server past_entry ≡ entry_at c.args.s c.args.server
 entry_read c =
@@ -86,7 +86,7 @@ returns-then-table-i c =
 
 pub bounds-table-i : goal.bounds-table-i
 bounds-table-i c =
-    server-there (goal.at.bounds-table-i c).Else-table-i
+    server_there (goal.at.bounds-table-i c).Else-table-i
 
 pub returns-then-entry-j : goal.returns-then-entry-j
 unfolding arrive_of
@@ -104,7 +104,7 @@ returns-then-is_periodic c =
     rw (
       state_sound (goal.at.returns-then-is_periodic c).Else-not-sound,
       lt-ltb c.args.server c.args.s.table.count c.if-table-i.false,
-      lt-ltb c.args.task (server_at c.args.s c.args.server).count (task-there (goal.at.returns-then-is_periodic c).Else-entry-j),
+      lt-ltb c.args.task (server_at c.args.s c.args.server).count (task_there (goal.at.returns-then-is_periodic c).Else-entry-j),
       periodic (goal.at.returns-then-is_periodic c).After-is_periodic ∙ c.if-is_periodic.true,
     )
     c.refuse_arrival-then-is_periodic.ensures
@@ -141,7 +141,7 @@ returns c =
     rw (
       state_sound (goal.at.returns c).Else-not-sound,
       lt-ltb c.args.server c.args.s.table.count c.if-table-i.false,
-      lt-ltb c.args.task (server_at c.args.s c.args.server).count (task-there (goal.at.returns c).Else-entry-j),
+      lt-ltb c.args.task (server_at c.args.s c.args.server).count (task_there (goal.at.returns c).Else-entry-j),
       periodic (goal.at.returns c).After-is_periodic ∙ c.if-is_periodic.false,
     )
     (λ n. record {

@@ -43,9 +43,9 @@ unfolding chosen_of
 chosen_is c = c.chosen-c.ensures
 
 -- where the branch on the choice meets again
-charged-is : (c : Joined-c-lt-ENTRIES)
+charged_is : (c : Joined-c-lt-ENTRIES)
     → Charged (now (goal.at.Joined-c-lt-ENTRIES c).At-loop-k) c.chosen-c.result c.if-c-lt-ENTRIES.j c.if-c-lt-ENTRIES.entries
-charged-is c =
+charged_is c =
     let l = (goal.at.Joined-c-lt-ENTRIES c).At-loop-k in
     let chosen = chosen_is (goal.at.Joined-c-lt-ENTRIES c).After-chosen-c in
     elim c.if-c-lt-ENTRIES.branch [
@@ -65,18 +65,18 @@ clocked_is c =
       | else-falls w ↦ w.refills-is ∙ w.ticked-refills.ensures
     ]
 
-some-due : (c : In-loop-id) → due_step c.loop-id.refills ≡ true
-some-due c = sym c.due.ensures ∙ c.loop-id-test.true
+some_due : (c : In-loop-id) → due_step c.loop-id.refills ≡ true
+some_due c = sym c.due.ensures ∙ c.loop-id-test.true
 
 small : (c : After-first_id-id) → c.first_id-id.result < entries
-small c = refill_small c.loop-id.invariant (some-due (goal.at.After-first_id-id c).In-loop-id) c.first_id-id.ensures
+small c = refill_small c.loop-id.invariant (some_due (goal.at.After-first_id-id c).In-loop-id) c.first_id-id.ensures
 
 -- where no replenishment is due any more
-refilled-is : (c : After-loop-id)
+refilled_is : (c : After-loop-id)
     → Refilled (now (goal.at.After-loop-id c).At-loop-k) c.loop-id.entries c.loop-id.refills c.loop-id.handled
-refilled-is c =
+refilled_is c =
     let d = sym c.due.ensures ∙ c.loop-id-test.false in
-    refills_done (now (goal.at.After-loop-id c).At-loop-k) (ticking (goal.at.After-loop-id c).At-loop-k).sound (charged-is (goal.at.After-loop-id c).Joined-c-lt-ENTRIES).charged (clocked_is (goal.at.After-loop-id c).Joined-falls) c.loop-id.invariant d
+    refills_done (now (goal.at.After-loop-id c).At-loop-k) (ticking (goal.at.After-loop-id c).At-loop-k).sound (charged_is (goal.at.After-loop-id c).Joined-c-lt-ENTRIES).charged (clocked_is (goal.at.After-loop-id c).Joined-falls) c.loop-id.invariant d
 
 -- an entry whose queue is looked at
 within : (c : After-falls-in-loop-i) → c.loop-i.i < entries
@@ -105,7 +105,7 @@ charged-y-requires c =
 
 pub loop-id-init : goal.loop-id-init
 loop-id-init c =
-    let n = charged_full (now (goal.at.loop-id-init c).At-loop-k) (ticking (goal.at.loop-id-init c).At-loop-k) (charged-is (goal.at.loop-id-init c).Joined-c-lt-ENTRIES) in
+    let n = charged_full (now (goal.at.loop-id-init c).At-loop-k) (ticking (goal.at.loop-id-init c).At-loop-k) (charged_is (goal.at.loop-id-init c).Joined-c-lt-ENTRIES) in
     refill_start _ _ _ (ticking (goal.at.loop-id-init c).At-loop-k).eight.servers n (rw (clocked_is (goal.at.loop-id-init c).Joined-falls) (refills_turning (now (goal.at.loop-id-init c).At-loop-k) (ticking (goal.at.loop-id-init c).At-loop-k).sound))
 
 pub bounds-table-f : goal.bounds-table-f
@@ -122,16 +122,16 @@ bounds-entries-f-in-loop-id c =
 
 pub loop-id-smaller : goal.loop-id-smaller
 loop-id-smaller c =
-    omega (arith, refill_less c.loop-id.invariant (some-due (goal.at.loop-id-smaller c).In-loop-id) c.first_id-id.ensures c.again-refills.ensures)
+    omega (arith, refill_less c.loop-id.invariant (some_due (goal.at.loop-id-smaller c).In-loop-id) c.first_id-id.ensures c.again-refills.ensures)
 
 pub loop-id-preserved : goal.loop-id-preserved
 loop-id-preserved c =
     let y = ap (set c.loop-id.entries c.first_id-id.result) c.filled-y.ensures in
-    refill_more c.loop-id.invariant (some-due (goal.at.loop-id-preserved c).In-loop-id) c.first_id-id.ensures c.again-refills.ensures y
+    refill_more c.loop-id.invariant (some_due (goal.at.loop-id-preserved c).In-loop-id) c.first_id-id.ensures c.again-refills.ensures y
 
 pub loop-i-init : goal.loop-i-init
 loop-i-init c =
-    serve_start (refilled_fitting (now (goal.at.loop-i-init c).At-loop-k) (ticking (goal.at.loop-i-init c).At-loop-k) (refilled-is (goal.at.loop-i-init c).After-loop-id)) (omega (arith, c.loop-id.invariant.handled, c.loop-id.invariant.few))
+    serve_start (refilled_fitting (now (goal.at.loop-i-init c).At-loop-k) (ticking (goal.at.loop-i-init c).At-loop-k) (refilled_is (goal.at.loop-i-init c).After-loop-id)) (omega (arith, c.loop-id.invariant.handled, c.loop-id.invariant.few))
 
 pub loop-i-preserved-then-falls-2 : goal.loop-i-preserved-then-falls-2
 loop-i-preserved-then-falls-2 c =
@@ -156,7 +156,7 @@ loop-i-preserved c =
 
 pub choice_of-requires : goal.choice_of-requires
 choice_of-requires c =
-    (chosen_within (now (goal.at.choice_of-requires c).At-loop-k) (ticking (goal.at.choice_of-requires c).At-loop-k) (chosen_is (goal.at.choice_of-requires c).After-chosen-c), (charged-is (goal.at.choice_of-requires c).Joined-c-lt-ENTRIES).task)
+    (chosen_within (now (goal.at.choice_of-requires c).At-loop-k) (ticking (goal.at.choice_of-requires c).At-loop-k) (chosen_is (goal.at.choice_of-requires c).After-chosen-c), (charged_is (goal.at.choice_of-requires c).Joined-c-lt-ENTRIES).task)
 
 pub bounds-answers-k : goal.bounds-answers-k
 bounds-answers-k c =
@@ -164,7 +164,7 @@ bounds-answers-k c =
 
 pub loop-p-init : goal.loop-p-init
 loop-p-init c =
-    lapse_start (now (goal.at.loop-p-init c).At-loop-k) (ticking (goal.at.loop-p-init c).At-loop-k) (refilled-is (goal.at.loop-p-init c).After-loop-id) c.loop-i.invariant c.loop-i-test.false
+    lapse_start (now (goal.at.loop-p-init c).At-loop-k) (ticking (goal.at.loop-p-init c).At-loop-k) (refilled_is (goal.at.loop-p-init c).After-loop-id) c.loop-i.invariant c.loop-i-test.false
 
 pub bounds-table-p : goal.bounds-table-p
 bounds-table-p c =
@@ -205,10 +205,10 @@ loop-k-preserved c =
     let k = c.loop-k.k in
     let i = c.loop-k.invariant in
     let x = c.loop-k-test.true in
-    let r = refilled-is (goal.at.loop-k-preserved c).After-loop-id in
+    let r = refilled_is (goal.at.loop-k-preserved c).After-loop-id in
     let h : entries ≤ c.loop-i.i = c.loop-i-test.false in
     let n = tick_state (now (goal.at.loop-k-preserved c).At-loop-k) (ticking (goal.at.loop-k-preserved c).At-loop-k) r c.loop-i.invariant h c.loop-p.invariant c.polled_entries-polled.ensures.1 c.loop-p-test.false in
-    let a = c.choice_of.ensures ∙ (charged-is (goal.at.loop-k-preserved c).Joined-c-lt-ENTRIES).choice in
+    let a = c.choice_of.ensures ∙ (charged_is (goal.at.loop-k-preserved c).Joined-c-lt-ENTRIES).choice in
     let b = tick_count (now (goal.at.loop-k-preserved c).At-loop-k) (ticking (goal.at.loop-k-preserved c).At-loop-k) r c.loop-i.invariant h in (
       omega (arith, x),
       rw n (tick_kept (now (goal.at.loop-k-preserved c).At-loop-k) (ticking (goal.at.loop-k-preserved c).At-loop-k)),

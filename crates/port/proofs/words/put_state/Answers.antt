@@ -34,18 +34,18 @@ module _ (c : After-put_queue) where
   abbrev lent : List ℕ
   lent = c.args.w.now
 
-  all-full : FullState state
-  all-full = full (goal.at.After-put_queue c).Start
+  all_full : FullState state
+  all_full = full (goal.at.After-put_queue c).Start
 
   size : length lent ≡ state_size
   size = c.put_table-arg-1.given.0.1
 
   fronted : c.put_queue.new.w ≡ over 0 (table_words state.table ++ queue_words state.refills) lent
   fronted =
-      let n = table_length state.table all-full.table in
+      let n = table_length state.table all_full.table in
       behind 0 table_size (table_words state.table) (queue_words state.refills)
       lent _ _ c.put_table.ensures c.put_queue.ensures
-      (omega (arith, n)) (omega (arith, size, queue_length state.refills all-full.cells))
+      (omega (arith, n)) (omega (arith, size, queue_length state.refills all_full.cells))
 
   whole : length c.put_queue.new.w ≡ state_size
   whole = rw (fronted, over_length) size
@@ -64,7 +64,7 @@ put_queue-requires c =
 
 pub loop-i-init : goal.loop-i-init
 loop-i-init c =
-    let f = all-full (goal.at.loop-i-init c).After-put_queue in
+    let f = all_full (goal.at.loop-i-init c).After-put_queue in
     wrote_none entry_words entry_size entries _ _ _ f.count (entries_sizes (state (goal.at.loop-i-init c).After-put_queue).entries f.entries) (omega (arith, whole (goal.at.loop-i-init c).After-put_queue))
 
 pub put_entry-requires : goal.put_entry-requires
@@ -84,6 +84,6 @@ returns c =
     let qs = queue_words v.refills in
     let es = each entry_words v.entries in
     let n : length (ts ++ qs) ≡ table_size + queue_size =
-    simp length-append (omega (arith, table_length v.table (all-full (goal.at.returns c).After-put_queue).table, queue_length v.refills (all-full (goal.at.returns c).After-put_queue).cells)) in
+    simp length-append (omega (arith, table_length v.table (all_full (goal.at.returns c).After-put_queue).table, queue_length v.refills (all_full (goal.at.returns c).After-put_queue).cells)) in
     wrote_behind c.loop-i.invariant (omega arith) 0 (ts ++ qs) (lent (goal.at.returns c).After-put_queue) (fronted (goal.at.returns c).After-put_queue) (omega arith)
-    ∙ rw (append_assoc ts qs es) (over_all (state_words v) (lent (goal.at.returns c).After-put_queue) (state_length v (all-full (goal.at.returns c).After-put_queue) ∙ sym (size (goal.at.returns c).After-put_queue)))
+    ∙ rw (append_assoc ts qs es) (over_all (state_words v) (lent (goal.at.returns c).After-put_queue) (state_length v (all_full (goal.at.returns c).After-put_queue) ∙ sym (size (goal.at.returns c).After-put_queue)))

@@ -55,9 +55,9 @@ row c =
     ∙ rw ((next (goal.at.After-chain_to-then c).After-next_event-n).tail max_gap c.args.delay.0, c.chain_to-then.ensures, c.chain_of-own.ensures, chain_cells max_gap (c.args.delay.0 - c.passed-w.result.last) c.args.id)
 
 -- its cells are counted
-row-length : (c : After-chain_to-then) → length (place_cells max_gap c.args.id c.args.delay.0 (cells_of c.args.q))
+row_length : (c : After-chain_to-then) → length (place_cells max_gap c.args.id c.args.delay.0 (cells_of c.args.q))
     ≡ c.passed-w.result.start + c.chain_of-own.result.cells + c.chain_to-then.result.cells + (c.args.q.len - c.next_event-n.result.behind)
-row-length c =
+row_length c =
     let w = c.passed-w.ensures.walked in
     let l = cells_length c.args.q (full (goal.at.After-chain_to-then c).Else-q-gt-CELLS) c.if-q-gt-CELLS.false in
     let o = c.chain_of-own.result in
@@ -103,7 +103,7 @@ made c =
     let r = place_cells max_gap c.args.id c.args.delay.0 (cells_of c.args.q) in
     let cells : sets c.linked-more.result.cells i (own (goal.at.After-linked c).After-chain_to-then) ≡ r ++ drop (length r) c.args.q.cells =
     rw (c.linked-more.ensures, c.moved-rest.ensures) (s ∙ e ∙ ap (λ (l : List Cell). l ++ drop (length l) c.args.q.cells) (sym (row (goal.at.After-linked c).After-chain_to-then))) in
-    let len : c.linked-more.result.len ≡ length r = rw (c.linked-more.ensures, c.moved-rest.ensures) (sym (row-length (goal.at.After-linked c).After-chain_to-then)) in
+    let len : c.linked-more.result.len ≡ length r = rw (c.linked-more.ensures, c.moved-rest.ensures) (sym (row_length (goal.at.After-linked c).After-chain_to-then)) in
     c.linked.ensures ∙ (λ j. record { cells = cells j; len = len j })
 
 pub returns-then-q-gt-CELLS : goal.returns-then-q-gt-CELLS
@@ -135,7 +135,7 @@ overflow_add-to-2 c =
 pub returns-then-to-q-gt-CELLS : goal.returns-then-to-q-gt-CELLS
 unfolding place_step
 returns-then-to-q-gt-CELLS c =
-    let l : cell_count < length (place_cells max_gap c.args.id c.args.delay.0 (cells_of c.args.q)) = rw (row-length (goal.at.returns-then-to-q-gt-CELLS c).After-chain_to-then) (omega (arith, c.if-to-q-gt-CELLS.true)) in
+    let l : cell_count < length (place_cells max_gap c.args.id c.args.delay.0 (cells_of c.args.q)) = rw (row_length (goal.at.returns-then-to-q-gt-CELLS c).After-chain_to-then) (omega (arith, c.if-to-q-gt-CELLS.true)) in
     rw (le-ltb cell_count c.args.q.len c.if-q-gt-CELLS.false, lt-ltb cell_count (length (place_cells max_gap c.args.id c.args.delay.0 (cells_of c.args.q))) l) c.refuse-then-to-q-gt-CELLS.ensures
 
 pub moved-rest-requires : goal.moved-rest-requires
@@ -145,6 +145,6 @@ moved-rest-requires c =
 pub returns : goal.returns
 unfolding place_step
 returns c =
-    let l : length (place_cells max_gap c.args.id c.args.delay.0 (cells_of c.args.q)) ≤ cell_count = rw (row-length (goal.at.returns c).After-chain_to-then) (omega (arith, c.if-to-q-gt-CELLS.false)) in
+    let l : length (place_cells max_gap c.args.id c.args.delay.0 (cells_of c.args.q)) ≤ cell_count = rw (row_length (goal.at.returns c).After-chain_to-then) (omega (arith, c.if-to-q-gt-CELLS.false)) in
     rw (le-ltb cell_count c.args.q.len c.if-q-gt-CELLS.false, le-ltb cell_count (length (place_cells max_gap c.args.id c.args.delay.0 (cells_of c.args.q))) l)
     (c.accept.ensures ∙ ap accepted_with (made (goal.at.returns c).After-linked))

@@ -75,8 +75,8 @@ def main():
     # the test itself must be able to fail: a name that is nowhere, a file that is not there, an edit that is not there, a law that only serves
     row = "| x | `{}` | `{}` | `{}` |"
     here = "crates/refusal/specs/Refusal.antt"
-    law = row.format("number-when", "crates/refusal/proofs/Exactly.antt", "")
-    for broken in ("| x | `firstOf` | `" + here + "` |", row.format("nowhere", here, ""), row.format("firstOf", "crates/none.antt", ""), row.format("firstOf", here, "refusal/none"), law):
+    law = row.format("number_when", "crates/refusal/proofs/Exactly.antt", "")
+    for broken in ("| x | `first_of` | `" + here + "` |", row.format("nowhere", here, ""), row.format("first_of", "crates/none.antt", ""), row.format("first_of", here, "refusal/none"), law):
         if len(faults(page + "\n" + broken, ROOT)[0]) <= len(wrong):
             wrong.append(f"the test passes over {broken}")
     # and a promised file that no row names

@@ -1,5 +1,6 @@
 """Document 01: "A budget handed over where a distance is due must not pass the checker." An edit that does so never reaches the prover, so no must-fail edit can
-show it. Here a copy of the crates, with a small program over them, passes the front end and runs; each edit of it is refused by the front end for its types."""
+show it. Here a copy of the crates, with a small program over them, passes the front end and runs; each edit of it is refused by the front end for its types.
+`rt try` proves nothing."""
 import pathlib
 import shutil
 import subprocess
@@ -36,16 +37,16 @@ EDITS = (
 
 def copy(work):
     for crate in CRATES:
-        shutil.copytree(ROOT / "crates" / crate, work / "crates" / crate)
+        shutil.copytree(ROOT / "crates" / crate, work / "crates" / crate, ignore=shutil.ignore_patterns("out"))
     (work / "crates" / "program" / "src").mkdir(parents=True)
     (work / "crates" / "program" / "src" / "main.rt").write_text(PROGRAM)
     lines = [f"{crate}:{below}\n" for crate, below in CRATES.items()]
     (work / "crates.txt").write_text("".join(lines) + f"program: {' '.join(CRATES)}\n")
 
 
-def rt(work, *words):
-    """Whether rt passes, and what it says."""
-    run = subprocess.run(["rt", *words], cwd=work, capture_output=True, text=True, timeout=300)
+def tried(work):
+    """Whether the program passes the front end and runs, and what rt says."""
+    run = subprocess.run(["rt", "try"], cwd=work / "crates" / "program", stdin=subprocess.DEVNULL, capture_output=True, text=True, timeout=300)
     return run.returncode == 0, run.stdout + run.stderr
 
 
@@ -57,13 +58,11 @@ def fault(work, crate, old, new, due, handed):
         return f"it does not stand there once: {old}"
     path.write_text(text.replace(old, new))
     try:
-        if rt(work, "try", "program")[0]:
-            return "it passes the front end"
-        # it is refused: this names the reason, and ends before anything is proved
-        sources = [word for name in CRATES for word in ("--lib", f"{name}=crates/{name}/src/lib.rt")]
-        said = rt(work, "check", "crates/program", *sources)[1]
+        passes, said = tried(work)
     finally:
         path.write_text(text)
+    if passes:
+        return "it passes the front end"
     if f"error[mismatched-types]: expected `{due}`, found `{handed}`" not in said:
         return f"it is not refused for its types: {said[:300]}"
     return ""
@@ -74,7 +73,7 @@ def main():
         work = pathlib.Path(folder)
         copy(work)
         wrong = []
-        passes, said = rt(work, "try", "program")
+        passes, said = tried(work)
         if not passes:
             wrong.append(f"the copy itself does not pass: {said[:300]}")
         for edit in EDITS:

@@ -1,4 +1,4 @@
-"""The two calls of crate queue on a queue that is lent, clock_in and take_in, from C, held to the model: the answer and all memory behind each call. It proves
+"""The two calls on a queue that is lent, clock_in and take_in of crate queue_c, from C, held to the model: the answer and all memory behind each call. It proves
 nothing and builds no crate.
 
     python3 tests/lent.py [ARCHIVE]     ARCHIVE: in place of target/staticlib/libqueue.a"""
@@ -208,7 +208,7 @@ def blind(work, program):
 
 def main():
     archive = pathlib.Path(sys.argv[1]).resolve() if len(sys.argv) > 1 else ROOT / "target" / "staticlib" / "libqueue.a"
-    stop([] if archive.is_file() else [f"there is no {archive.name}: `rt staticlib queue` writes it"])
+    stop([] if archive.is_file() else [f"there is no {archive.name}: `bash tests/archives queue` writes it"])
     stop([] if shutil.which(COMPILER[0]) else [f"{COMPILER[0]} is missing"])
     stop([f"the model: {line}" for line in edges.faults()])
     scripts = [sound_script(), unsound_script(), bit_script()]

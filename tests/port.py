@@ -267,7 +267,7 @@ def hold(work, archive, scripts):
 def main():
     given = [pathlib.Path(word).resolve() for word in sys.argv[1:]]
     archives = given or [ROOT / "target" / "staticlib" / "libport.a"]
-    stop([f"there is no {path.name}: `rt staticlib port` writes it" for path in archives if not path.is_file()])
+    stop([f"there is no {path.name}: `bash tests/archives port` writes it" for path in archives if not path.is_file()])
     stop([f"{tool} is missing" for tool in (COMPILER[0], "cargo") if not shutil.which(tool)])
     stop([f"the model: {line}" for line in edges.faults()])
     with tempfile.TemporaryDirectory() as folder:

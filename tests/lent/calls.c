@@ -1,4 +1,4 @@
-/* The two calls of crate queue on a queue that is lent, for a script of tests/lent.py (tests/script.h). The structs are declared here once more, as a kernel in
+/* The two calls of crate queue_c on a queue that is lent, for a script of tests/lent.py (tests/script.h). The structs are declared here once more, as a kernel in
  * C declares them: with C's layout, in which a cell has a byte of padding behind its id. */
 #define _DEFAULT_SOURCE
 #include <stddef.h>

@@ -1,4 +1,4 @@
-//! Links libport.a from the folder that the variable PORT_ARCHIVE names, or from where `rt staticlib port` writes it.
+//! Links libport.a from the folder that the variable PORT_ARCHIVE names, or from where `bash tests/archives port` writes it.
 use std::env;
 
 fn main() {

@@ -1,6 +1,6 @@
 """Copies a trace from its standard input to its output, and says how the run ended: status 1 where it was refused, with the refusal in words.
 
-    target/bin/trace <INPUT | python3 examples/outcome.py"""
+    crates/trace/out/trace <INPUT | python3 examples/outcome.py"""
 import pathlib
 import re
 import signal

@@ -1,6 +1,6 @@
 """The trace program held to the model, whole output against whole output, on every case of tests/cases.py. It builds nothing.
 
-    python3 tests/traces.py [PROGRAM]     PROGRAM: in place of target/bin/trace"""
+    python3 tests/traces.py [PROGRAM]     PROGRAM: in place of crates/trace/out/trace"""
 import os
 import pathlib
 import re
@@ -230,7 +230,7 @@ def endless(words):
 def main():
     stop([f"the model: {line}" for line in edges.faults()])
     stop([f"the test passes over {line}" for line in blind()])
-    words = programs.command(sys.argv[1] if len(sys.argv) > 1 else ROOT / "target" / "bin" / "trace")
+    words = programs.command(sys.argv[1] if len(sys.argv) > 1 else ROOT / "crates" / "trace" / "out" / "trace")
     all_cases = cases.cases()
     names = {case.name for case in all_cases}
     if len(names) < len(all_cases) or len(all_cases) < FEWEST_CASES:

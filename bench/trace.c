@@ -1,4 +1,4 @@
-// Document 01's trace program in plain C, with no check of the state: the lines and refusals of target/bin/trace. bench/trace compares the two.
+// Document 01's trace program in plain C, with no check of the state: the lines and refusals of crate trace. bench/trace compares the two.
 #include "scheduler.h"
 
 enum { LONGEST_SETUP = 65535, HEAD = 4, SERVER_RECORD = 10, TASK_RECORD = 13, MESSAGE = 6, RUN = 1, LONGEST = 1000000 };

@@ -1,53 +1,54 @@
 // Runs document 01's points on the edge and writes each with its outcome: the number of a refusal, or the cells as `id+gap`, a filler as `-+gap`.
 #![tactic(auto)]
 
-use libc::STDOUT_FILENO;
 use queue::{Changed, Distance, Queue};
+use std::io;
 
-fn say(text: &[u8]) {
-    io::write_all(STDOUT_FILENO, text);
+fn say(rt: &impl Print, text: &[u8]) -> io::Result<()> {
+    rt.write_all(text)
 }
 
-fn number(n: u64) {
-    io::print_decimal(STDOUT_FILENO, n);
+fn number(rt: &impl Print, n: u64) -> io::Result<()> {
+    rt.print(n)
 }
 
-fn cell(id: u8, gap: u16) {
-    say(b" ");
+fn cell(rt: &impl Print, id: u8, gap: u16) -> io::Result<()> {
+    say(rt, b" ")?;
     if id == Queue::FILLER {
-        say(b"-");
+        say(rt, b"-")?;
     } else {
-        number(id as u64);
+        number(rt, id as u64)?;
     }
-    say(b"+");
-    number(gap as u64);
+    say(rt, b"+")?;
+    number(rt, gap as u64)
 }
 
-fn cells(q: Queue) {
+fn cells(rt: &impl Print, q: Queue) -> io::Result<()> {
     let n = q.len;
     let mut i: usize = 0;
     while i < Queue::CELLS {
         if i < n {
             let c = q.cells[i];
-            cell(c.id, c.gap);
+            cell(rt, c.id, c.gap)?;
         }
         i = i + 1;
     }
+    Ok(())
 }
 
 // Writes the outcome of a call, and hands on the queue.
-fn outcome(text: &[u8], t: Changed) -> Queue {
-    say(text);
-    say(b":");
+fn outcome(rt: &impl Print, text: &[u8], t: Changed) -> io::Result<Queue> {
+    say(rt, text)?;
+    say(rt, b":")?;
     let r = t.refusal;
     if r.number == 0 {
-        cells(t.queue);
+        cells(rt, t.queue)?;
     } else {
-        say(b" refused ");
-        number(r.number as u64);
+        say(rt, b" refused ")?;
+        number(rt, r.number as u64)?;
     }
-    say(b"\n");
-    t.queue
+    say(rt, b"\n")?;
+    Ok(t.queue)
 }
 
 // The queue with n events more at distance 0, with ids 0 to n - 1.
@@ -62,55 +63,66 @@ fn now(n: u8) -> Queue {
     q
 }
 
-fn gaps() {
+fn gaps(rt: &impl Print) -> io::Result<()> {
     let none = Queue::empty();
     outcome(
+        rt,
         b"65,535 into an empty queue",
         queue::insert(none, 1, Distance(65_535)),
-    );
+    )?;
     let far = outcome(
+        rt,
         b"65,536 into an empty queue",
         queue::insert(none, 1, Distance(65_536)),
-    );
+    )?;
     outcome(
+        rt,
         b"131,071 into an empty queue",
         queue::insert(none, 1, Distance(131_071)),
-    );
+    )?;
     outcome(
+        rt,
         b"1,000,000 into an empty queue",
         queue::insert(none, 1, Distance(1_000_000)),
-    );
+    )?;
     outcome(
+        rt,
         b"1,000,001 into an empty queue",
         queue::insert(none, 1, Distance(1_000_001)),
-    );
-    let near = outcome(b"clock on 65,536", queue::clock(far));
-    outcome(b"push back of that", queue::push_back(near));
+    )?;
+    let near = outcome(rt, b"clock on 65,536", queue::clock(far))?;
+    outcome(rt, b"push back of that", queue::push_back(near))?;
+    Ok(())
 }
 
-fn equals() {
+fn equals(rt: &impl Print) -> io::Result<()> {
     let a = queue::insert(Queue::empty(), 1, Distance(65_536));
     let b = queue::insert(a.queue, 2, Distance(70_000));
     let q = outcome(
+        rt,
         b"1 at 65,536, then 2 and 3 at 70,000",
         queue::insert(b.queue, 3, Distance(70_000)),
-    );
-    outcome(b"remove 1 of that", queue::remove(q, 1));
+    )?;
+    outcome(rt, b"remove 1 of that", queue::remove(q, 1))?;
+    Ok(())
 }
 
-fn room() {
+fn room(rt: &impl Print) -> io::Result<()> {
     outcome(
+        rt,
         b"1,000,000 behind 16 at 0",
         queue::insert(now(16), 99, Distance(1_000_000)),
-    );
+    )?;
     outcome(
+        rt,
         b"1,000,000 behind 17 at 0",
         queue::insert(now(17), 99, Distance(1_000_000)),
-    );
+    )?;
+    Ok(())
 }
 
-fn main() {
-    gaps();
-    equals();
-    room();
+fn main(rt: HostRuntime) -> io::Result<()> {
+    gaps(&rt)?;
+    equals(&rt)?;
+    room(&rt)
 }

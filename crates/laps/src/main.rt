@@ -2,11 +2,13 @@
 // Standard input is a setup, then the number of batches in two bytes. `bench/run` counts its instructions, and those of the same work in C.
 #![tactic(auto)]
 
-use libc::{STDIN_FILENO, STDOUT_FILENO};
+ghost use Rattle.std.specs.Io.{ReadsAtMost};
+
 use refusal::Refusal;
 use scheduler::{Answer, Batch};
 use state::{Choice, State};
-use std::num::wrapping_add_u64;
+use std::io;
+use std::io::Read;
 
 // Of the ticks run so far.
 #[derive(Clone, Copy)]
@@ -63,11 +65,11 @@ fn running(c: Choice) -> u64 {
 fn with_tick(s: Sums, a: Answer) -> Sums {
     let c = a.choice;
     Sums {
-        ticks: wrapping_add_u64(s.ticks, 1),
-        handled: wrapping_add_u64(s.handled, a.handled as u64),
-        idle: wrapping_add_u64(s.idle, idle(c)),
-        burned: wrapping_add_u64(s.burned, burned(c)),
-        running: wrapping_add_u64(s.running, running(c)),
+        ticks: s.ticks.wrapping_add(1),
+        handled: s.handled.wrapping_add(a.handled as u64),
+        idle: s.idle.wrapping_add(idle(c)),
+        burned: s.burned.wrapping_add(burned(c)),
+        running: s.running.wrapping_add(running(c)),
     }
 }
 
@@ -93,40 +95,55 @@ fn laps(s: State, n: u16) -> Sums {
     sums
 }
 
-fn say(text: &[u8], n: u64) {
-    io::write_all(STDOUT_FILENO, text);
-    io::print_decimal(STDOUT_FILENO, n);
+fn say(rt: &impl Print, text: &[u8], n: u64) -> io::Result<()> {
+    rt.write_all(text)?;
+    rt.print(n)
 }
 
-fn write(s: Sums) {
-    say(b"ticks ", s.ticks);
-    say(b" handled ", s.handled);
-    say(b" idle ", s.idle);
-    say(b" burned ", s.burned);
-    say(b" running ", s.running);
-    io::write_all(STDOUT_FILENO, b"\n");
+fn write(rt: &impl Print, s: Sums) -> io::Result<()> {
+    say(rt, b"ticks ", s.ticks)?;
+    say(rt, b" handled ", s.handled)?;
+    say(rt, b" idle ", s.idle)?;
+    say(rt, b" burned ", s.burned)?;
+    say(rt, b" running ", s.running)?;
+    rt.write_all(b"\n")
 }
 
-fn refused(r: Refusal) {
-    say(b"refused ", r.number as u64);
-    say(b" at ", r.place as u64);
-    io::write_all(STDOUT_FILENO, b"\n");
+fn refused(rt: &impl Print, r: Refusal) -> io::Result<()> {
+    say(rt, b"refused ", r.number as u64)?;
+    say(rt, b" at ", r.place as u64)?;
+    rt.write_all(b"\n")
 }
 
-fn start(input: &[u8]) {
+fn start(rt: &impl Print, input: &[u8]) -> io::Result<()> {
     let stated = field::two(input, 0, 0) as usize;
     let r = setup::read(front(input, stated));
     let refusal = r.refusal;
     if refusal.number != 0 {
-        refused(refusal);
-        return;
+        return refused(rt, refusal);
     }
     let made = state::fresh(r.table);
-    write(laps(made.state, field::two(input, stated, 0)));
+    write(rt, laps(made.state, field::two(input, stated, 0)))
 }
 
-fn main() {
+// Reads until the buffer is full or the input ends, and gives how many bytes stand at the buffer's start.
+fn read_full(rt: &impl Input, buffer: &mut [u8]) -> io::Result<usize>
+    ensures { ReadsAtMost result buffer.new }
+{
+    let mut reader = rt.reader();
+    let mut done = 0;
+    while done < buffer.len() {
+        let n = reader.read(&mut buffer[done..])?;
+        if n == 0 {
+            break;
+        }
+        done = done + n;
+    }
+    Ok(done)
+}
+
+fn main(rt: HostRuntime) -> io::Result<()> {
     let mut input = [0; 918];
-    let n = io::read_full(STDIN_FILENO, &mut input);
-    start(&input[..n]);
+    let n = read_full(&rt, &mut input)?;
+    start(&rt, &input[..n])
 }

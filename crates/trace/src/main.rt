@@ -2,7 +2,7 @@
 // line says; here bytes are read, handed over and written, in large pieces.
 #![tactic(auto)]
 
-ghost use Rattle.std.specs.Io.{ReadsAtMost};
+ghost use Rattle.std.specs.Prelude.{◌≤◌, length};
 
 use desk::Desk;
 use field::Written;
@@ -139,26 +139,26 @@ fn finish(rt: &impl Print, out: &mut [u8], r: Run) -> io::Result<()> {
     write(rt, out, t.at)
 }
 
-// Reads until the buffer is full or the input ends, and gives how many bytes stand at the buffer's start.
-fn read_full(rt: &impl Input, buffer: &mut [u8]) -> io::Result<usize>
-    ensures { ReadsAtMost result buffer.new }
+// Reads until the buffer is full, the input ends or a read fails, and gives how many bytes it put at the buffer's start.
+fn read_full(rt: &impl Input, buffer: &mut [u8]) -> usize
+    ensures { result ≤ length buffer.new }
 {
     let mut reader = rt.reader();
     let mut done = 0;
     while done < buffer.len() {
-        let n = reader.read(&mut buffer[done..])?;
+        let n = reader.read(&mut buffer[done..]).unwrap_or(0);
         if n == 0 {
             break;
         }
         done = done + n;
     }
-    Ok(done)
+    done
 }
 
 // One chunk read and handed over.
 fn turn(rt: &(impl Input + Print), input: &mut [u8], out: &mut [u8], r: Run) -> io::Result<Run> {
     let most = small::least(CHUNK, input.len());
-    let n = small::least(read_full(rt, &mut input[..most])?, input.len());
+    let n = small::least(read_full(rt, &mut input[..most]), input.len());
     let run = chunk(rt, &input[..n], out, r)?;
     if !run.going {
         return Ok(run);
@@ -186,21 +186,21 @@ fn messages(rt: &(impl Input + Print), input: &mut [u8], out: &mut [u8], r: Run)
 }
 
 // As many bytes as the first two say, or all there are.
-fn read_setup(rt: &impl Input, input: &mut [u8]) -> io::Result<usize> {
+fn read_setup(rt: &impl Input, input: &mut [u8]) -> usize {
     let two = small::least(2, input.len());
-    let head = read_full(rt, &mut input[..two])?;
+    let head = read_full(rt, &mut input[..two]);
     let stated = small::least(field::two(input, 0, 0) as usize, input.len());
     if stated <= two {
-        return Ok(small::least(stated, head));
+        return small::least(stated, head);
     }
     if head < two {
-        return Ok(head);
+        return head;
     }
-    Ok(head + read_full(rt, &mut input[two..stated])?)
+    head + read_full(rt, &mut input[two..stated])
 }
 
 fn program(rt: &(impl Input + Print), input: &mut [u8], out: &mut [u8]) -> io::Result<()> {
-    let n = small::least(read_setup(rt, input)?, input.len());
+    let n = small::least(read_setup(rt, input), input.len());
     let o = desk::open(&input[..n]);
     let t = behind(0, lines::header(out, 0));
     if !t.going {

@@ -45,7 +45,7 @@ fn write(rt: &impl Print, out: &[u8], n: usize) -> io::Result<()> {
     rt.write_all(&out[..end])
 }
 
-// Writes out what the buffer holds, where it may not have room for a batch of lines.
+// Writes out what the buffer holds, where it may not have room for a batch of lines, and gives how far the buffer is filled then.
 fn spare(rt: &impl Print, out: &[u8], at: usize) -> io::Result<usize> {
     if at
         <= small::least(

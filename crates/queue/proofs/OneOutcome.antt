@@ -93,7 +93,7 @@ place_one κs a x y e f p q = same p q
 pub again_one : One again.Post (λ κs x e. x)
 again_one κs a x y e f p q = same p q
 
--- the calls on a queue that is lent. The checker makes no `Reads` of them, so here stand the clauses that their walks prove, in any model of the logic: where
+-- the calls on a queue that is lent, said of the contract's own clauses, in any model of the logic: where
 -- the contract's `ensures` holds of two outcomes, of the answers x and y and of the parameters e and f at exit, the same is seen of both
 abbrev OneHeld : {M : Type 1} (𝓤 : Ura M) (T : Ended) {B : Type 0} → Clauses 𝓤 T
     → ((κs : Lfts T.signature.lifetimes) → Res T.signature κs → AtExit T κs → B) → Type 1

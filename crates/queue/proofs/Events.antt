@@ -1,4 +1,4 @@
--- Laws of what the calls do to a list of events: what stays in order, Proper, near and distinct, and how many cells it takes. Assumes nothing.
+-- Laws of what the calls do to a list of events: what stays in order, proper, near and distinct, and how many cells it takes. Assumes nothing.
 use mathlib.Core.Path.{◌≡◌, refl, sym, ap, ◌∙◌}
 use mathlib.Core.Bool.{Bool, true, false, not}
 use mathlib.Core.List.{List, [], ◌∷◌}

@@ -207,7 +207,7 @@ module _ (s : State) (z : SizedState s) where
     known : SoundTable longest most_work s.table
     known = (table_sound longest most_work s.table z.table).0 parts.table
 
-    -- each entry with its server; past_default the end both are zero
+    -- each entry with its server; past the end both are zero
     entry_known : (i : ℕ) → EntryStated (server_at s i) (entry_at s i)
     entry_known i = (entry_stated (server_at s i) (entry_at s i)).0 (go (ltb i entries) refl)
       where

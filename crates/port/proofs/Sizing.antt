@@ -67,7 +67,7 @@ entries_full (e ∷ es) (u ∷ us) k = (
   entries_full es us k.1,
 )
 
--- every table and every state that the code holds is full: a parameter's `.good` is what it knows
+-- every table and every state that the code holds is full: a parameter's `.well_formed` is what it knows
 pub table_full : (t : Table) (vs : List Val) → shadow ((row table.the_type).own_val t vs) → FullTable t
 table_full t vs k = record { count = k.1.1.0.1.0.1; servers = servers_full t.servers _ k.1.1.0.1.1 }
 

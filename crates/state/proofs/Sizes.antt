@@ -1,4 +1,4 @@
--- The lengths of a state's arrays, of which every state that the code holds is sure: a parameter's `.good` is what it knows. Assumes nothing.
+-- The lengths of a state's arrays, of which every state that the code holds is sure: a parameter's `.well_formed` is what it knows. Assumes nothing.
 use mathlib.Core.Path.{◌≡◌}
 use mathlib.Core.List.{List, [], ◌∷◌}
 use Prim.Native.Nat.{ℕ, zero, suc, ◌<◌}

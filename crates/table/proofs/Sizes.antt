@@ -1,4 +1,4 @@
--- The lengths of a table's arrays, of which every table that the code holds is sure: a parameter's `.good` is what it knows. Assumes nothing.
+-- The lengths of a table's arrays, of which every table that the code holds is sure: a parameter's `.well_formed` is what it knows. Assumes nothing.
 use mathlib.Core.Path.{◌≡◌}
 use mathlib.Core.List.{List, [], ◌∷◌}
 use Prim.Native.Nat.{ℕ, zero, suc, ◌<◌}
@@ -27,7 +27,7 @@ tasks_full (s ∷ ss) [] i z h k = absurd k
 tasks_full (s ∷ ss) (u ∷ us) zero z h k = k.0.1.1.0.1.0.1
 tasks_full (s ∷ ss) (u ∷ us) (suc i) z h k = tasks_full ss us i z (omega arith) k.1
 
--- every table that the code holds has all its entries: a parameter's `.good` is what it knows
+-- every table that the code holds has all its entries: a parameter's `.well_formed` is what it knows
 pub table_sized : (t : Table) (vs : List Val) → shadow ((row table.the_type).own_val t vs) → Sized t
 table_sized t vs k =
     let full : length t.servers ≡ entries = k.1.1.0.1.0.1 in

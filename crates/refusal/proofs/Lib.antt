@@ -2,3 +2,4 @@
 pub mod Decided
 pub mod Exactly
 pub mod Joined
+pub mod Reasons

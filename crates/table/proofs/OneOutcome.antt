@@ -2,33 +2,45 @@
 -- contract of `f` says of the arguments a, the result r and the parameters e as they are at exit. Assumes nothing.
 use Rattle.small.proofs.Outcome.{One, same}
 use Rattle.table.specs.Table.{ticks}
-use Rattle.table.proofs.sound.Reads as sound
-use Rattle.table.proofs.server_sound.Reads as server_sound_lem
-use Rattle.table.proofs.task_sound.Reads as task_sound_lem
-use Rattle.table.proofs.known_kind.Reads as known_kind_lem
-use Rattle.table.proofs.in_range.Reads as in-range
-use Rattle.table.proofs.release_number.Reads as release-number
-use Rattle.table.proofs.is_periodic.Reads as is-periodic
-use Rattle.table.proofs.period_of.Reads as period-of
-use Rattle.table.proofs.offset_of.Reads as offset-of
+use Rattle.table.proofs.Table.is_sound.Reads as table-is_sound
+use Rattle.table.proofs.Server.known_kind.Reads as known-kind
+use Rattle.table.proofs.Kind.number.Reads as kind-number
+use Rattle.table.proofs.Release.number.Reads as release-number
+use Rattle.table.proofs.Release.is_periodic.Reads as is-periodic
+use Rattle.table.proofs.Release.period.Reads as period-of
+use Rattle.table.proofs.Release.offset.Reads as offset-of
 use Rattle.table.proofs.Table.zero.Reads as zero-table
 use Rattle.table.proofs.Server.zero.Reads as zero_server_lem
 use Rattle.table.proofs.Task.zero.Reads as zero_task_lem
+use Rattle.table.proofs.KindTryFromU8.try_from.Reads as kind-try_from
+use Rattle.table.proofs.ServerPart.is_sound.Reads as server-is_sound
+use Rattle.table.proofs.TaskPart.is_sound.Reads as task-is_sound
+use Rattle.table.proofs.ServerPart.is_zero.Reads as server-is_zero
+use Rattle.table.proofs.TaskPart.is_zero.Reads as task-is_zero
 
-pub table_one : One sound.Post (λ κs x e. x)
+pub table_one : One table-is_sound.Post (λ κs x e. x)
 table_one κs a x y e f p q = same p q
 
-pub server_sound_one : One server_sound_lem.Post (λ κs x e. x)
+pub server_sound_one : One server-is_sound.Post (λ κs x e. x)
 server_sound_one κs a x y e f p q = same p q
 
-pub task_sound_one : One task_sound_lem.Post (λ κs x e. x)
+pub task_sound_one : One task-is_sound.Post (λ κs x e. x)
 task_sound_one κs a x y e f p q = same p q
 
-pub known_kind_one : One known_kind_lem.Post (λ κs x e. x)
+pub server_zero_one : One server-is_zero.Post (λ κs x e. x)
+server_zero_one κs a x y e f p q = same p q
+
+pub task_zero_one : One task-is_zero.Post (λ κs x e. x)
+task_zero_one κs a x y e f p q = same p q
+
+pub known_kind_one : One known-kind.Post (λ κs x e. x)
 known_kind_one κs a x y e f p q = same p q
 
-pub in_range_one : One in-range.Post (λ κs x e. x)
-in_range_one κs a x y e f p q = same p q
+pub kind_number_one : One kind-number.Post (λ κs x e. x)
+kind_number_one κs a x y e f p q = same p q
+
+pub kind_try_from_one : One kind-try_from.Post (λ κs x e. x)
+kind_try_from_one κs a x y e f p q = same p q
 
 pub release_number_one : One release-number.Post (λ κs x e. x)
 release_number_one κs a x y e f p q = same p q

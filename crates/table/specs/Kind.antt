@@ -1,4 +1,4 @@
--- The kinds of a server, each with the document's number, named once for the definitions; `impl Server` names them once for the code.
+-- The kinds of a server, each with the document's number, named once for the definitions; the enum `Kind` names them for the code.
 use Rattle.std.specs.Prelude.{ℕ}
 
 -- "idling (kind 1), or deferrable (kind 2)"

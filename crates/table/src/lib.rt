@@ -2,24 +2,104 @@
 // 0 the highest.
 #![tactic(auto)]
 
-ghost use Rattle.std.specs.Prelude.{◌≡◌, true, false, eqb};
-ghost use Rattle.small.specs.Small.{pick};
+ghost use Rattle.std.specs.Prelude.{◌≡◌, Bool, eqb};
+ghost use Rattle.small.specs.Small.{usedb};
 ghost use Rattle.queue.specs.Limits.{longest};
 ghost use Rattle.table.specs.Limits.{most_work};
+ghost use Rattle.table.specs.Kinds.{kind_number, kind_of, known_kind};
 ghost use Rattle.table.specs.Table.{release_number, period_of, offset_of, zero_task, zero_server, zero_table};
-ghost use Rattle.table.specs.Sound.{rangeb, kindb, releaseb, taskb, zero_taskb, tasksb, serverb, zero_serverb, tableb};
+ghost use Rattle.table.specs.Sound.{releaseb, taskb, zero_taskb, serverb, zero_serverb, tableb};
 
 use queue::{Distance, Queue};
+use refusal::Reason;
 
-// Ticks that a server is served: budgets and work. A `Distance` counts ticks of the clock, and neither passes for the other.
-#[derive(Clone, Copy)]
+/// Ticks that a server is served: budgets and work. A `Distance` counts ticks of the clock, and neither passes for the other.
+#[derive(Clone, Copy, Default, PartialEq, Eq, PartialOrd, Ord)]
 pub struct Served(pub u32);
 
-// A task's release: on arrival, or periodic with its period T and its offset O.
+/// When a server wants a tick: each kind has the document's number. Polling is of document 02, #101: "Setup code 6 now allows 3."
+#[derive(Clone, Copy, PartialEq, Eq)]
+pub enum Kind {
+    Idling = 1,
+    Deferrable = 2,
+    Polling = 3,
+}
+
+impl Kind {
+    pub fn number(self) -> u8
+        ensures { result ≡ kind_number self }
+    {
+        self as u8
+    }
+}
+
+impl TryFrom<u8> for Kind {
+    type Error = Reason;
+
+    ghost try_from_gives = { λ n kind. kind ≡ kind_of n };
+
+    fn try_from(number: u8) -> Result<Kind, Reason> {
+        match number {
+            1 => Ok(Kind::Idling),
+            2 => Ok(Kind::Deferrable),
+            3 => Ok(Kind::Polling),
+            _ => Err(Reason::ServerKind),
+        }
+    }
+}
+
+/// A task's release: on arrival, or periodic with its period T and its offset O.
 #[derive(Clone, Copy)]
 pub enum Release {
     OnArrival,
     Periodic { period: Distance, offset: Distance },
+}
+
+// The document's number and values of each. On arrival, the period and the offset are 0.
+impl Release {
+    pub fn number(self) -> u8
+        ensures { result ≡ release_number self }
+    {
+        match self {
+            Release::OnArrival => 0,
+            Release::Periodic { .. } => 1,
+        }
+    }
+
+    pub fn is_periodic(self) -> bool
+        ensures { result ≡ eqb (release_number self) 1 }
+    {
+        matches!(self, Release::Periodic { .. })
+    }
+
+    pub fn period(self) -> Distance
+        ensures { result.0 ≡ period_of self }
+    {
+        match self {
+            Release::OnArrival => Distance(0),
+            Release::Periodic { period, .. } => period,
+        }
+    }
+
+    pub fn offset(self) -> Distance
+        ensures { result.0 ≡ offset_of self }
+    {
+        match self {
+            Release::OnArrival => Distance(0),
+            Release::Periodic { offset, .. } => offset,
+        }
+    }
+
+    fn is_sound(self) -> bool
+        ensures { result ≡ releaseb longest self }
+    {
+        match self {
+            Release::OnArrival => true,
+            Release::Periodic { period, offset } => {
+                (1..=Queue::LONGEST).contains(&period.0) && offset.0 <= Queue::LONGEST
+            }
+        }
+    }
 }
 
 #[derive(Clone, Copy)]
@@ -28,7 +108,8 @@ pub struct Task {
     pub release: Release,
 }
 
-// The first `count` tasks are in use; the others are zero.
+// The first `count` tasks are in use; the others are zero. The kind is the document's number and no `Kind`: the port takes any table from C, and crate faults writes
+// unsound ones, so `table_sound` (proofs/Soundness.antt) speaks of tables with other numbers.
 #[derive(Clone, Copy)]
 pub struct Server {
     pub tasks: [Task; Table::ENTRIES],
@@ -43,6 +124,27 @@ pub struct Server {
 pub struct Table {
     pub servers: [Server; Table::ENTRIES],
     pub count: usize,
+}
+
+/// An entry of a table: in use its values are in range, and unused it is zero.
+pub trait Part {
+    ghost in_range: { Self → Bool };
+
+    ghost zero: { Self → Bool };
+
+    fn is_sound(&self) -> bool
+        ensures { result ≡ in_range self.now };
+
+    fn is_zero(&self) -> bool
+        ensures { result ≡ zero self.now };
+}
+
+/// Whether the first `count` entries are sound and the others zero.
+pub fn in_use<T: Part>(entries: &[T], count: usize) -> bool
+    ensures { result ≡ usedb T.in_range T.zero entries.now count }
+{
+    let (used, unused) = entries.split_at(count.min(entries.len()));
+    used.iter().all(|x| x.is_sound()) && unused.iter().all(|x| x.is_zero())
 }
 
 impl Table {
@@ -60,15 +162,17 @@ impl Table {
             count: 0,
         }
     }
+
+    // Values in range, unused entries zero, 1 to 8 servers.
+    #[tactic(auto, unfolding(crate::specs::Sound::tableb))]
+    pub fn is_sound(&self) -> bool
+        ensures { result ≡ tableb longest most_work self.now }
+    {
+        (1..=Table::ENTRIES).contains(&self.count) && in_use(&self.servers, self.count)
+    }
 }
 
 impl Server {
-    pub const IDLING: u8 = 1;
-
-    pub const DEFERRABLE: u8 = 2;
-
-    pub const POLLING: u8 = 3;
-
     pub fn zero() -> Server
         ensures { result ≡ zero_server }
     {
@@ -79,6 +183,36 @@ impl Server {
             period: Distance(0),
             budget: Served(0),
         }
+    }
+
+    /// Its kind, where its number is one.
+    pub fn known_kind(&self) -> Option<Kind>
+        ensures { result ≡ known_kind self.now.kind }
+    {
+        Kind::try_from(self.kind).ok()
+    }
+}
+
+impl Part for Server {
+    ghost in_range = { serverb longest most_work };
+
+    ghost zero = { zero_serverb };
+
+    fn is_sound(&self) -> bool {
+        self.known_kind().is_some()
+            && (1..=Queue::LONGEST).contains(&self.period.0)
+            && (1..=self.period.0).contains(&self.budget.0)
+            && self.count <= Table::ENTRIES
+            && in_use(&self.tasks, self.count)
+    }
+
+    #[tactic(auto, using(small::proofs::Used::used_none))]
+    fn is_zero(&self) -> bool {
+        self.kind == 0
+            && self.period.0 == 0
+            && self.budget.0 == 0
+            && self.count == 0
+            && in_use(&self.tasks, 0)
     }
 }
 
@@ -93,204 +227,16 @@ impl Task {
     }
 }
 
-// Values in range, unused entries zero, 1 to 8 servers.
-pub fn sound(t: Table) -> bool
-    ensures { result ≡ tableb longest most_work t }
-{
-    let n = t.count;
-    if n == 0 {
-        return false;
-    }
-    if Table::ENTRIES < n {
-        return false;
-    }
-    let mut i: usize = 0;
-    while i < Table::ENTRIES {
-        if !entry_sound(t.servers[i], i < n) {
-            return false;
-        }
-        i = i + 1;
-    }
-    true
-}
+impl Part for Task {
+    ghost in_range = { taskb longest most_work };
 
-fn entry_sound(s: Server, used: bool) -> bool
-    ensures { result ≡ pick used (serverb longest most_work s) (zero_serverb s) }
-{
-    if used {
-        return server_sound(s);
-    }
-    server_zero(s)
-}
+    ghost zero = { zero_taskb };
 
-pub fn server_sound(s: Server) -> bool
-    ensures { result ≡ serverb longest most_work s }
-{
-    if !known_kind(s.kind) {
-        return false;
+    fn is_sound(&self) -> bool {
+        (1..=Table::MOST_WORK).contains(&self.work.0) && self.release.is_sound()
     }
-    let p = s.period;
-    if !in_range(p.0, 1, Queue::LONGEST) {
-        return false;
-    }
-    let c = s.budget;
-    if !in_range(c.0, 1, p.0) {
-        return false;
-    }
-    if Table::ENTRIES < s.count {
-        return false;
-    }
-    tasks_sound(s)
-}
 
-// Kind 1 is idling, kind 2 deferrable, kind 3 polling: "Setup code 6 now allows 3." (document 02, #101)
-pub fn known_kind(kind: u8) -> bool
-    ensures { result ≡ kindb kind }
-{
-    if kind == Server::IDLING {
-        return true;
-    }
-    if kind == Server::DEFERRABLE {
-        return true;
-    }
-    kind == Server::POLLING
-}
-
-pub fn in_range(x: u32, least: u32, most: u32) -> bool
-    ensures { result ≡ rangeb least most x }
-{
-    if x < least {
-        return false;
-    }
-    x <= most
-}
-
-fn server_zero(s: Server) -> bool
-    ensures { result ≡ zero_serverb s }
-{
-    if s.kind != 0 {
-        return false;
-    }
-    let p = s.period;
-    if p.0 != 0 {
-        return false;
-    }
-    let c = s.budget;
-    if c.0 != 0 {
-        return false;
-    }
-    if s.count != 0 {
-        return false;
-    }
-    tasks_sound(s)
-}
-
-// The tasks in use have values in range, and the others are zero.
-fn tasks_sound(s: Server) -> bool
-    ensures { result ≡ tasksb longest most_work s }
-{
-    let n = s.count;
-    let mut i: usize = 0;
-    while i < Table::ENTRIES {
-        if !task_entry_sound(s.tasks[i], i < n) {
-            return false;
-        }
-        i = i + 1;
-    }
-    true
-}
-
-fn task_entry_sound(t: Task, used: bool) -> bool
-    ensures { result ≡ pick used (taskb longest most_work t) (zero_taskb t) }
-{
-    if used {
-        return task_sound(t);
-    }
-    task_zero(t)
-}
-
-pub fn task_sound(t: Task) -> bool
-    ensures { result ≡ taskb longest most_work t }
-{
-    let e = t.work;
-    if !in_range(e.0, 1, Table::MOST_WORK) {
-        return false;
-    }
-    let r = t.release;
-    release_sound(r)
-}
-
-fn release_sound(r: Release) -> bool
-    ensures { result ≡ releaseb longest r }
-{
-    match r {
-        Release::OnArrival => true,
-        Release::Periodic { period, offset } => {
-            if !in_range(period.0, 1, Queue::LONGEST) {
-                return false;
-            }
-            offset.0 <= Queue::LONGEST
-        }
-    }
-}
-
-fn task_zero(t: Task) -> bool
-    ensures { result ≡ zero_taskb t }
-{
-    let e = t.work;
-    if e.0 != 0 {
-        return false;
-    }
-    let r = t.release;
-    match r {
-        Release::OnArrival => true,
-        Release::Periodic {
-            period: _,
-            offset: _,
-        } => false,
-    }
-}
-
-// RELEASES: the document's number and values of each. On arrival, the period and the offset are 0.
-
-pub fn release_number(r: Release) -> u8
-    ensures { result ≡ release_number r }
-{
-    match r {
-        Release::OnArrival => 0,
-        Release::Periodic {
-            period: _,
-            offset: _,
-        } => 1,
-    }
-}
-
-pub fn is_periodic(r: Release) -> bool
-    ensures { result ≡ eqb (release_number r) 1 }
-{
-    match r {
-        Release::OnArrival => false,
-        Release::Periodic {
-            period: _,
-            offset: _,
-        } => true,
-    }
-}
-
-pub fn period_of(r: Release) -> Distance
-    ensures { result.0 ≡ period_of r }
-{
-    match r {
-        Release::OnArrival => Distance(0),
-        Release::Periodic { period, offset: _ } => period,
-    }
-}
-
-pub fn offset_of(r: Release) -> Distance
-    ensures { result.0 ≡ offset_of r }
-{
-    match r {
-        Release::OnArrival => Distance(0),
-        Release::Periodic { period: _, offset } => offset,
+    fn is_zero(&self) -> bool {
+        self.work.0 == 0 && !self.release.is_periodic()
     }
 }

@@ -1,5 +1,5 @@
 -- Laws of a writer's answer and of the buffer that it leaves, for any refusal r and any bytes. Assumes nothing.
-use mathlib.Core.Path.{◌≡◌, refl}
+use mathlib.Core.Path.{◌≡◌, refl, ap}
 use mathlib.Core.Bool.{Bool, true, false}
 use mathlib.Core.List.{List, ◌++◌}
 use mathlib.Core.Logic.{◌≢◌}
@@ -7,13 +7,15 @@ use Prim.Native.Nat.{ℕ, ◌≤◌}
 use lib.Dec.{eqb}
 use lib.ListN.{length, drop}
 use borrow.Author.Tests.{ne_eqb}
+use Rattle.std.specs.Prelude.{Result, Ok, Err}
 use Rattle.small.specs.Small.{pick}
 use Rattle.refusal.specs.Refusal.{none}
 use Rattle.refusal.specs.declared.Refusal.{Refusal}
+use Rattle.refusal.specs.declared.Reason.{Reason}
+use Rattle.refusal.proofs.Reasons.{refusal_in_one, number_one}
 use Rattle.refusal.proofs.Decided.{Decided, decided}
 use Rattle.field.specs.Field.{over}
-use Rattle.field.specs.Write.{written_with, written, buffer_after}
-use Rattle.field.specs.declared.Written.{Written}
+use Rattle.field.specs.Write.{Written, written_with, written_by, written, buffer_after}
 use Rattle.field.proofs.Fields.{over_start, over_length}
 
 module _ (r : Refusal) (bytes : List ℕ) where
@@ -46,3 +48,10 @@ module _ (r : Refusal) (bytes : List ℕ) where
       go : (b : Bool) → length (pick b (over 0 bytes buf) buf) ≡ length buf
       go true = over_length 0 bytes buf
       go false = refl
+
+-- an outcome is told by its answer
+pub written_one : (a b : Result ℕ Reason) → written_by a ≡ written_by b → a ≡ b
+written_one (Ok m) (Ok n) e = ap Ok (ap (λ (w : Written). w.length) e)
+written_one (Ok m) (Err r) e = absurd (let h = refusal_in_one (Ok tt) (Err r) (ap (λ (w : Written). w.refusal) e) in cc)
+written_one (Err r) (Ok n) e = absurd (let h = refusal_in_one (Err r) (Ok tt) (ap (λ (w : Written). w.refusal) e) in cc)
+written_one (Err r) (Err s) e = ap Err (number_one r s (ap (λ (w : Written). w.refusal.number) e))

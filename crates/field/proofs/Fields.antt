@@ -3,14 +3,17 @@ use mathlib.Core.Path.{◌≡◌, refl, sym, ap, ◌∙◌}
 use mathlib.Core.Bool.{Bool, true, false}
 use mathlib.Core.List.{List, [], ◌∷◌, ◌++◌, append_assoc}
 use Prim.Native.Nat.{ℕ, zero, suc, ◌+◌, ◌*◌, ◌/◌, ◌^◌, ◌≤◌, ◌<◌}
-use native.Mathlib.Nat.{add-zero, zero-add, add_assoc, mod-lt, one-le-pow, pow-succ'}
+use native.Mathlib.Nat.{add-zero, zero-add, add_assoc, mod-lt, one-le-pow, pow-succ', min-eq_left, min-eq_right, sub_self}
 use native.Mathlib.Numerals.{add-one}
 use native.Mathlib.Omega.{arith}
 use lib.Arith.{digits_lt}
 use lib.Dec.{leb}
-use lib.ListN.{length, take, drop, length-append, length-drop, take-append-drop, get_or-eq_default}
-use lib.Seq.{sets, sets-eq, length-take-le, take_at, drop_at, drop-drop, get_or-drop}
-use borrow.Author.Tests.{le-leb, lt-leb, leb-true}
+use lib.ListN.{set, length, take, drop, length-append, length-drop, take-append-drop, get_or-eq_default, drop_of_length-le}
+use lib.Seq.{take-set-lt, sets, sets-eq, length-take-le, take_at, drop_at, drop-drop, get_or-drop}
+use borrow.Author.Tests.{le-leb, lt-leb, leb-true, leb-false}
+use Rattle.std.specs.List.{slice_range}
+use Rattle.std.specs.Prelude.{min}
+use Rattle.std.proofs.lemmas.List.{take_all, set-append_left, take_more_set}
 use Rattle.small.specs.Small.{pick}
 use Rattle.field.specs.Field.{byte_of, field_of, big, over}
 use Rattle.field.specs.Bytes.{Bytes}
@@ -59,6 +62,36 @@ byte_past at k bs h = get_or-drop at bs k 0 ∙ get_or-eq_default bs 0 h
 -- a field's first byte, and the field of the rest
 pub field_step : (w k j : ℕ) (bs : List ℕ) → j ≡ suc k → field_of (suc w) (drop k bs) ≡ byte_of k bs * 256 ^ w + field_of w (drop j bs)
 field_step w k j bs e = rw (e, get_or-drop, drop-drop, add-zero, add-one)
+
+-- the same from the other end: the field of the bytes before, and the last
+pub field_more : (w : ℕ) (bs : List ℕ) → field_of (suc w) bs ≡ field_of w bs * 256 + byte_of w bs
+field_more zero bs = omega arith
+field_more (suc w) bs =
+    let e : byte_of w (drop 1 bs) ≡ byte_of (suc w) bs = rw get_or-drop (ap (λ (k : ℕ). byte_of k bs) (omega arith)) in
+    let m : byte_of 0 bs * 256 ^ suc w ≡ byte_of 0 bs * 256 ^ w * 256 = rw pow-succ' (mul_swap (byte_of 0 bs) (256 ^ w)) in
+    omega (arith, field_more w (drop 1 bs), e, m)
+  where
+    mul_swap : (a b : ℕ) → a * (256 * b) ≡ a * b * 256
+    mul_swap a b = grind arith
+
+-- what a slice has from a place on, which may be past its end
+pub rest_from : (at : ℕ) (bs : List ℕ) → slice_range bs (min at (length bs)) (length bs) ≡ drop at bs
+rest_from at bs = go (leb at (length bs)) refl
+  where
+    go : (b : Bool) → leb at (length bs) ≡ b → slice_range bs (min at (length bs)) (length bs) ≡ drop at bs
+    go true e =
+        let h : at ≤ length bs = leb-true _ _ e in
+        rw (min-eq_left h) (take_all _ _ (rw length-drop (omega arith)))
+    go false e =
+        let h : length bs ≤ at = omega (arith, leb-false at (length bs) e) in
+        rw (min-eq_right h, sub_self) (sym (drop_of_length-le bs h))
+
+-- a byte is a field, and the bytes of a byte are itself
+pub field_byte : (bs : List ℕ) → field_of 1 bs ≡ byte_of 0 bs
+field_byte bs = omega arith
+
+pub big_byte : (n : ℕ) → n < 256 → big 1 n ≡ n ∷ []
+big_byte n h = ap (λ b. b ∷ []) (omega arith)
 
 -- OVER
 
@@ -110,3 +143,19 @@ over_over at xs ys buf h =
 -- stores from a place on, one behind the other
 pub over_sets : (at : ℕ) (xs buf : List ℕ) → at + length xs ≤ length buf → sets buf at xs ≡ over at xs buf
 over_sets at xs buf h = sets-eq xs buf at h ∙ append_assoc (take at buf) xs _ ∙ sym (over_fits at xs buf h)
+
+-- and from behind: a store before what was written last
+pub over_before : (at x : ℕ) (xs buf : List ℕ) → at + 1 + length xs ≤ length buf → set (over (at + 1) xs buf) at x ≡ over at (x ∷ xs) buf
+over_before at x xs buf h =
+    let k : at + 1 ≤ length buf = omega arith in
+    let l : at < length (take (at + 1) buf) = rw length-take-le (omega arith) in
+    let e : at + length (x ∷ xs) ≡ at + 1 + length xs = omega arith in
+    rw (
+      over_fits (at + 1) xs buf h,
+      set-append_left (take (at + 1) buf) (xs ++ drop (at + 1 + length xs) buf) at x l,
+      over_fits at (x ∷ xs) buf (omega arith),
+      e,
+      ← take-set-lt (at + 1) buf at x (omega arith),
+      take_more_set buf at x (omega arith),
+      append_assoc,
+    )

@@ -2,103 +2,113 @@
 // write that does not fit changes nothing.
 #![tactic(auto)]
 
-ghost use Rattle.std.specs.Prelude.{◌≡◌, [], ◌∷◌, drop};
-ghost use Rattle.refusal.specs.Refusal.{none, refused};
-ghost use Rattle.field.specs.Field.{byte_of, field_of, big, over};
-ghost use Rattle.field.specs.Write.{written_with};
+ghost use Rattle.std.specs.Prelude.{◌≡◌, ℕ, ◌+◌, ◌^◌, ◌%◌, ◌≤◌, ◌<◌, drop};
+ghost use Rattle.field.specs.Field.{field_of, big, over};
+ghost use Rattle.std.proofs.Common.{arith};
 
-use refusal::Refusal;
+/// A number that stands in a field of its own width.
+pub trait Field: Copy {
+    ghost WIDTH: { ℕ };
 
-// The answer of a writer: how many bytes it wrote. A refused writer has written none.
-#[derive(Clone, Copy)]
-pub struct Written {
-    pub refusal: Refusal,
-    pub length: usize,
+    /// The number that a value is.
+    ghost value: { Self → ℕ };
+
+    /// Its bytes, at most four.
+    const WIDTH: usize;
+
+    fn wide(self) -> u32
+        ensures { result ≡ value self };
+
+    fn narrow(n: u32) -> Self
+        requires { n < 256 ^ WIDTH }
+        ensures { value result ≡ n };
+
+    ghost few: { WIDTH ≤ 4 };
+
+    ghost one: { (x y : Self) → value x ≡ value y → x ≡ y };
 }
 
-impl Written {
-    pub fn whole(length: usize) -> Written
-        ensures { result ≡ written_with none length }
-    {
-        Written {
-            refusal: Refusal::none(),
-            length: length,
-        }
+impl Field for u8 {
+    ghost WIDTH = { 1 };
+
+    ghost value = { λ n. n };
+
+    ghost few = { omega arith };
+
+    ghost one = { λ x y e. e };
+
+    const WIDTH: usize = 1;
+
+    fn wide(self) -> u32 {
+        u32::from(self)
     }
 
-    pub fn refused(number: u8) -> Written
-        ensures { result ≡ written_with (refused number 0) 0 }
-    {
-        Written {
-            refusal: Refusal::numbered(number),
-            length: 0,
-        }
-    }
-}
-
-// The byte that stands k behind a place.
-pub fn byte(s: &[u8], at: usize, k: usize) -> u8
-    ensures { result ≡ byte_of k (drop at s.now) }
-{
-    if s.len() <= at {
-        return 0;
-    }
-    if s.len() - at <= k {
-        return 0;
-    }
-    s[at + k]
-}
-
-// The field of two bytes that stands k behind a place.
-pub fn two(s: &[u8], at: usize, k: u8) -> u16
-    ensures { result ≡ field_of 2 (drop k (drop at s.now)) }
-{
-    let i = k as usize;
-    let high = byte(s, at, i) as u16;
-    let low = byte(s, at, i + 1) as u16;
-    high * 256 + low
-}
-
-// The field of four bytes that stands k behind a place.
-pub fn four(s: &[u8], at: usize, k: u8) -> u32
-    ensures { result ≡ field_of 4 (drop k (drop at s.now)) }
-{
-    let i = k as usize;
-    let a = byte(s, at, i) as u32;
-    let b = byte(s, at, i + 1) as u32;
-    let c = byte(s, at, i + 2) as u32;
-    let d = byte(s, at, i + 3) as u32;
-    ((a * 256 + b) * 256 + c) * 256 + d
-}
-
-pub fn put_byte(out: &mut [u8], at: usize, b: u8)
-    ensures { out.new ≡ over at (b ∷ []) out.old }
-{
-    if at < out.len() {
-        out[at] = b;
+    fn narrow(n: u32) -> u8 {
+        n as u8
     }
 }
 
-pub fn put_two(out: &mut [u8], at: usize, n: u16)
-    ensures { out.new ≡ over at (big 2 n) out.old }
-{
-    if at <= out.len() {
-        if 2 <= out.len() - at {
-            out[at] = (n / 256) as u8;
-            out[at + 1] = (n % 256) as u8;
-        }
+impl Field for u16 {
+    ghost WIDTH = { 2 };
+
+    ghost value = { λ n. n };
+
+    ghost few = { omega arith };
+
+    ghost one = { λ x y e. e };
+
+    const WIDTH: usize = 2;
+
+    fn wide(self) -> u32 {
+        u32::from(self)
+    }
+
+    fn narrow(n: u32) -> u16 {
+        n as u16
     }
 }
 
-pub fn put_four(out: &mut [u8], at: usize, n: u32)
-    ensures { out.new ≡ over at (big 4 n) out.old }
+impl Field for u32 {
+    ghost WIDTH = { 4 };
+
+    ghost value = { λ n. n };
+
+    ghost few = { omega arith };
+
+    ghost one = { λ x y e. e };
+
+    const WIDTH: usize = 4;
+
+    fn wide(self) -> u32 {
+        self
+    }
+
+    fn narrow(n: u32) -> u32 {
+        n
+    }
+}
+
+/// The field at a place.
+pub fn read<T: Field>(s: &[u8], at: usize) -> T
+    ensures { T.value result ≡ field_of T.WIDTH (drop at s.now) }
 {
-    if at <= out.len() {
-        if 4 <= out.len() - at {
-            out[at] = (n / 16777216) as u8;
-            out[at + 1] = (n / 65536 % 256) as u8;
-            out[at + 2] = (n / 256 % 256) as u8;
-            out[at + 3] = (n % 256) as u8;
+    let rest = &s[at.min(s.len())..];
+    let mut n = 0;
+    for k in 0..T::WIDTH {
+        n = n * 256 + u32::from(rest.get(k).copied().unwrap_or(0));
+    }
+    T::narrow(n)
+}
+
+/// Writes a field at a place.
+pub fn put<T: Field>(out: &mut [u8], at: usize, n: T)
+    ensures { out.new ≡ over at (big T.WIDTH (T.value n)) out.old }
+{
+    if at <= out.len() && T::WIDTH <= out.len() - at {
+        let mut left = n.wide();
+        for k in 0..T::WIDTH {
+            out[at + T::WIDTH - 1 - k] = (left % 256) as u8;
+            left = left / 256;
         }
     }
 }

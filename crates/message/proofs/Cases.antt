@@ -1,20 +1,18 @@
--- What the definitions of the reader and the writer come to in each case, from plain facts of the bytes. Assumes nothing.
+-- What the definition of the reader comes to in each kind of message, from plain facts of the bytes. Assumes nothing.
 use mathlib.Core.Path.{◌≡◌, refl}
 use mathlib.Core.Bool.{Bool, true, false, not}
-use mathlib.Core.List.{List, [], ◌∷◌}
+use mathlib.Core.List.{List}
 use mathlib.Core.Logic.{◌↔◌, ◌≢◌, ◌⊎◌, inl, inr}
-use Prim.Native.Nat.{ℕ, ◌≤◌, ◌<◌}
+use Prim.Native.Nat.{ℕ, ◌≤◌}
 use native.Mathlib.Omega.{arith}
 use lib.Dec.{eqb}
 use lib.ListN.{length, drop}
-use borrow.Author.Tests.{eq-eqb, ne_eqb, eqb-true, eqb-false, lt-ltb, le-ltb, not-true, not-false}
+use borrow.Author.Tests.{eq-eqb, ne_eqb, eqb-true, eqb-false, le-ltb, not-true, not-false}
 use Rattle.small.specs.Small.{pick}
 use Rattle.small.proofs.Tests.{contrary}
-use Rattle.refusal.specs.Numbers.{message_cut, message_length, message_version, message_kind}
-use Rattle.refusal.specs.Refusal.{none, refused}
-use Rattle.field.specs.Field.{byte_of, field_of, big, over}
-use Rattle.field.proofs.Fields.{over_over}
-use Rattle.message.specs.Message.{raw_bytes, zero_message, read_with, other_kind, read_of}
+use Rattle.refusal.specs.Refusal.{none}
+use Rattle.field.specs.Field.{byte_of, field_of}
+use Rattle.message.specs.Message.{read_with, other_kind, read_of}
 use Rattle.message.specs.declared.Message.TheVariants.{Run, Arrival}
 
 -- KINDS
@@ -45,26 +43,6 @@ abbrev pub Frame : List ℕ → Type 0
 Frame bs = (6 ≤ length bs) × (field_of 2 bs ≡ 6) × (byte_of 2 bs ≡ 1)
 
 module _ (bs : List ℕ) where
-  pub under_two : length bs < 2 → read_of bs ≡ read_with (refused message_cut 0) zero_message
-  unfolding read_of
-  under_two h = rw (lt-ltb _ 2 h)
-
-  pub other_length : 2 ≤ length bs → field_of 2 bs ≢ 6 → read_of bs ≡ read_with (refused message_length 0) zero_message
-  unfolding read_of
-  other_length h l = rw (le-ltb _ 2 h, ne_eqb _ 6 l)
-
-  pub under_six : 2 ≤ length bs → field_of 2 bs ≡ 6 → length bs < 6 → read_of bs ≡ read_with (refused message_cut 0) zero_message
-  unfolding read_of
-  under_six h l s = rw (le-ltb _ 2 h, eq-eqb _ 6 l, lt-ltb _ 6 s)
-
-  pub other_version : 6 ≤ length bs → field_of 2 bs ≡ 6 → byte_of 2 bs ≢ 1 → read_of bs ≡ read_with (refused message_version 0) zero_message
-  unfolding read_of
-  other_version h l v = rw (le-ltb (length bs) 2 (omega arith), eq-eqb _ 6 l, le-ltb _ 6 h, ne_eqb _ 1 v)
-
-  pub no_kind : Frame bs → byte_of 3 bs ≢ 1 → byte_of 3 bs ≢ 2 → read_of bs ≡ read_with (refused message_kind 0) zero_message
-  unfolding read_of
-  no_kind (h, l, v) j k = rw (le-ltb (length bs) 2 (omega arith), eq-eqb _ 6 l, le-ltb _ 6 h, eq-eqb _ 1 v, ne_eqb (byte_of 3 bs) 1 j, ne_eqb (byte_of 3 bs) 2 k)
-
   pub is_run : Frame bs → byte_of 3 bs ≡ 1 → read_of bs ≡ read_with none (Run (field_of 2 (drop 4 bs)))
   unfolding read_of
   is_run (h, l, v) k = rw (le-ltb (length bs) 2 (omega arith), eq-eqb _ 6 l, le-ltb _ 6 h, eq-eqb _ 1 v, k)
@@ -72,16 +50,3 @@ module _ (bs : List ℕ) where
   pub is_arrival : Frame bs → byte_of 3 bs ≡ 2 → read_of bs ≡ read_with none (Arrival (byte_of 4 bs) (byte_of 5 bs))
   unfolding read_of
   is_arrival (h, l, v) k = rw (le-ltb (length bs) 2 (omega arith), eq-eqb _ 6 l, le-ltb _ 6 h, eq-eqb _ 1 v, k)
-
--- THE WRITER
-
--- five writes, each behind the last, are one
-pub five_writes : (kind a b : ℕ) (buf : List ℕ) → 6 ≤ length buf
-    → over 5 (b ∷ []) (over 4 (a ∷ []) (over 3 (kind ∷ []) (over 2 (1 ∷ []) (over 0 (big 2 6) buf)))) ≡ over 0 (raw_bytes kind a b) buf
-five_writes kind a b buf h =
-    rw (
-      over_over 0 (big 2 6) (1 ∷ []) buf (omega arith),
-      over_over 0 (0 ∷ 6 ∷ 1 ∷ []) (kind ∷ []) buf (omega arith),
-      over_over 0 (0 ∷ 6 ∷ 1 ∷ kind ∷ []) (a ∷ []) buf (omega arith),
-      over_over 0 (0 ∷ 6 ∷ 1 ∷ kind ∷ a ∷ []) (b ∷ []) buf (omega arith),
-    )

@@ -2,17 +2,20 @@
 -- themselves: `f.Post κs a r e` is what the contract of `f` says of the arguments a, the result r and the parameters e as they are at exit. Assumes nothing.
 use mathlib.Core.Path.{◌≡◌}
 use Rattle.small.proofs.Outcome.{One, same}
+use Rattle.field.specs.Write.{written_by}
+use Rattle.field.proofs.Answers.{written_one}
 use Rattle.message.specs.Meaning.{write_of, written_to}
+use Rattle.message.proofs.Answers.{reading_one}
 use Rattle.message.proofs.read.Reads as read
 use Rattle.message.proofs.write.Reads as write
 
 -- "For every input, each public call's contract determines the complete outcome"
 pub read_one : One read.Post (λ κs x e. x)
-read_one κs a x y e f p q = same p q
+read_one κs a x y e f p q = reading_one x y (same p q)
 
 -- the same of the writer: its answer
 pub write_one : One write.Post (λ κs x e. x)
-write_one κs a x y e f p q = same p.0 q.0
+write_one κs a x y e f p q = written_one x y (same p.0 q.0)
 
 -- "and the final contents of memory it was lent": its buffer, the fourth parameter
 pub write_buffer_one : One write.Post (λ κs x e. e.1.1.1.0.now)
@@ -24,5 +27,5 @@ Says {K = K} {A = A} {X = X} {E = E} allows said = (κs : K) (a : A κs) (x : X 
 
 -- the outcome that the contract of the writer allows is the one that the promises speak of
 pub write_says : Says write.Post (λ κs a x e. let buf = a.1.1.1.0.now in
-    (x ≡ write_of a.0 a.1.0 a.1.1.0 buf) × (e.1.1.1.0.now ≡ written_to a.0 a.1.0 a.1.1.0 buf))
+    (written_by x ≡ write_of a.0 a.1.0 a.1.1.0 buf) × (e.1.1.1.0.now ≡ written_to a.0 a.1.0 a.1.1.0 buf))
 write_says κs a x e p = p

@@ -14,11 +14,10 @@ use Rattle.field.specs.Field.{byte_of, big}
 use Rattle.field.specs.Bytes.{Bytes}
 use Rattle.field.proofs.RoundTrip.{field_big, big_field}
 use Rattle.field.proofs.Fields.{bytes_drop, big_bytes, field_below}
-use Rattle.message.specs.Message.{kind_of, values_of, framed, raw_bytes, bytes_of, read_with, read_of}
+use Rattle.message.specs.Message.{Reading, kind_of, values_of, framed, raw_bytes, bytes_of, read_with, read_of}
 use Rattle.message.specs.Meaning.{Fits, written_to}
 use Rattle.message.specs.declared.Message.{Message}
 use Rattle.message.specs.declared.Message.TheVariants.{Run, Arrival}
-use Rattle.message.specs.declared.Reading.{Reading}
 use Rattle.message.proofs.Cases.{Frame, is_run, is_arrival}
 use Rattle.message.proofs.Refusals.{read_accepted, write_accepted}
 use Rattle.message.proofs.Unchanged.{write_rest}

@@ -6,9 +6,8 @@ use mathlib.Core.Logic.{◌≢◌}
 use Prim.Native.Nat.{ℕ}
 use lib.ListN.{length, drop}
 use Rattle.field.proofs.Answers.{written_none, written_whole, buffer_same, buffer_whole}
-use Rattle.message.specs.Message.{zero_message, read_of, raw_bytes, write_refusal}
+use Rattle.message.specs.Message.{Reading, zero_message, read_of, raw_bytes, write_refusal}
 use Rattle.message.specs.Meaning.{write_of, written_to}
-use Rattle.message.specs.declared.Reading.{Reading}
 use Rattle.message.proofs.Answers.{read_decided, write_number}
 use Rattle.message.proofs.Refusals.{write_accepted}
 

@@ -1,7 +1,6 @@
 -- The words that the promises of messages are stated with.
 use Rattle.std.specs.Prelude.{List, ℕ, ◌<◌, length}
-use Rattle.field.specs.Write.{written, buffer_after}
-use Rattle.field.specs.declared.Written.{Written}
+use Rattle.field.specs.Write.{Written, written, buffer_after}
 use Rattle.message.specs.Message.{raw_bytes, write_refusal}
 use Rattle.message.specs.declared.Message.{Message}
 use Rattle.message.specs.declared.Message.TheVariants.{Run, Arrival}

@@ -1,13 +1,22 @@
 -- "Message, six bytes: length 6 (2 bytes), version 1, kind, two bytes. Kind 1: a number of ticks to run, 0 to 65,535. Kind 2: server, task."
-use Rattle.std.specs.Prelude.{Bool, false, not, List, [], ◌∷◌, ◌++◌, ℕ, ltb, eqb, length, drop}
+use Rattle.std.specs.Prelude.{Result, Ok, Err, Bool, false, not, List, [], ◌∷◌, ◌++◌, ℕ, ltb, eqb, length, drop}
 use Rattle.small.specs.Small.{pick}
 use Rattle.refusal.specs.Numbers.{message_cut, message_length, message_version, message_kind, buffer_short}
 use Rattle.refusal.specs.Refusal.{none, Check, check, first_of}
+use Rattle.refusal.specs.Reason.{refusal_by}
 use Rattle.refusal.specs.declared.Refusal.{Refusal}
+use Rattle.refusal.specs.declared.Reason.{Reason}
+use Rattle.refusal.specs.declared.Reason.TheVariants.{MessageKind}
 use Rattle.field.specs.Field.{byte_of, field_of, big}
 use Rattle.message.specs.declared.Message.{Message}
 use Rattle.message.specs.declared.Message.TheVariants.{Run, Arrival}
-use Rattle.message.specs.declared.Reading.{Reading}
+use Rattle.message.specs.declared.Kind.{Kind}
+use Rattle.message.specs.declared.Kind.TheVariants.{Run as RunKind, Arrival as ArrivalKind}
+
+-- the message that is read, or why it is none
+pub record Reading : Type 0 where
+  pub refusal : Refusal
+  pub message : Message
 
 -- the kind and the two bytes of each case
 abbrev pub kind_of : Message → ℕ
@@ -36,9 +45,18 @@ zero_message = Run 0
 abbrev pub read_with : Refusal → Message → Reading
 read_with r m = record { refusal = r; message = m }
 
+-- what a reader's outcome is as a reading: "the zero of a choice is .. run 0"
+abbrev pub reading_by : Result Message Reason → Reading
+reading_by (Ok m) = read_with none m
+reading_by (Err r) = read_with (refusal_by r) zero_message
+
 -- "Kind not 1 or 2"
 abbrev pub other_kind : ℕ → Bool
 other_kind kind = pick (eqb kind 1) false (not (eqb kind 2))
+
+-- the kind that a byte names
+abbrev pub kind_named : ℕ → Result Kind Reason
+kind_named byte = pick (eqb byte 1) (Ok RunKind) (pick (eqb byte 2) (Ok ArrivalKind) (Err MessageKind))
 
 -- "Messages: under 2 bytes 14, then 15, under 6 bytes 14, 16, 17"
 abbrev pub read_checks : List ℕ → List Check

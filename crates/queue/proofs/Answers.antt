@@ -6,11 +6,8 @@ use Prim.Native.Nat.{ℕ}
 use Rattle.refusal.specs.Refusal.{none}
 use Rattle.refusal.specs.declared.Refusal.{Refusal}
 use Rattle.refusal.proofs.Decided.{Decided, decided}
-use Rattle.queue.specs.Calls.{changed, accepted_with, taken, taken_with, left_after, left_with}
+use Rattle.queue.specs.Calls.{Left, Taken, Changed, changed, accepted_with, taken, taken_with, left_after, left_with}
 use Rattle.queue.specs.declared.Queue.{Queue}
-use Rattle.queue.specs.declared.Changed.{Changed}
-use Rattle.queue.specs.declared.Taken.{Taken}
-use Rattle.queue.specs.declared.Left.{Left}
 
 pub changed_decided : (r : Refusal) (q next : Queue) → Decided (λ (c : Changed). c.refusal) r (accepted_with next) (record { refusal = r; queue = q }) (changed r q next)
 changed_decided r q next = decided (λ (c : Changed). c.refusal) r _ _ (changed r q next) refl refl refl

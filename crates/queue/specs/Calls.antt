@@ -1,19 +1,48 @@
 -- The queue's calls, by what they do to the events. Each has its tests in the order of document 01 (31 first, the others in numeric order): the first
 -- that holds is the refusal; a refused call gives back the queue as it was, and zero elsewhere. M is the largest gap and D the longest distance.
-use Rattle.std.specs.Prelude.{Bool, true, false, not, List, [], ◌∷◌, ℕ, ◌+◌, ◌-◌, leb, ltb, eqb, length}
+use Rattle.std.specs.Prelude.{Bool, true, false, not, List, [], ◌∷◌, ℕ, ◌+◌, ◌-◌, leb, ltb, eqb, length, Result, Ok, Err, ⊤}
 use Rattle.small.specs.Small.{pick}
 use Rattle.refusal.specs.Numbers.{id_of_filler, id_there, delay_too_long, no_room, no_such_event, event_due, nothing_due, at_longest, unsound}
 use Rattle.refusal.specs.Refusal.{none, refused, Check, check, first_of}
 use Rattle.queue.specs.Limits.{cell_count, filler}
 use Rattle.queue.specs.Row.{Event, event, queue_of, events_of, normal}
 use Rattle.queue.specs.Sound.{soundb, hasb}
+use Rattle.refusal.specs.Reason.{refusal_by, refusal_in}
+use Rattle.refusal.specs.declared.Reason.{Reason}
 use Rattle.refusal.specs.declared.Refusal.{Refusal}
+use Rattle.queue.specs.declared.Distance.{Distance}
 use Rattle.queue.specs.declared.Queue.{Queue}
-use Rattle.queue.specs.declared.Changed.{Changed}
-use Rattle.queue.specs.declared.Taken.{Taken}
-use Rattle.queue.specs.declared.Left.{Left}
 
--- What a call answers
+-- What a call answers: its refusal, or none, and what it gives beside it. A refused call gives the queue back as it was, and zero for the id or the distance.
+
+-- insert, remove, clock and push back
+pub record Changed : Type 0 where
+  pub refusal : Refusal
+  pub queue : Queue
+
+pub record Taken : Type 0 where
+  pub refusal : Refusal
+  pub id : ℕ
+  pub queue : Queue
+
+pub record Left : Type 0 where
+  pub refusal : Refusal
+  pub distance : Distance
+
+-- WHAT AN OUTCOME OF THE CODE IS AS AN ANSWER, with the queue that it leaves
+
+abbrev pub changed_by : Result ⊤ Reason → Queue → Changed
+changed_by r q = record { refusal = refusal_in r; queue = q }
+
+abbrev pub taken_by : Result ℕ Reason → Queue → Taken
+taken_by (Ok id) q = record { refusal = none; id = id; queue = q }
+taken_by (Err r) q = record { refusal = refusal_by r; id = 0; queue = q }
+
+abbrev pub left_by : Result Distance Reason → Left
+left_by (Ok d) = record { refusal = none; distance = d }
+left_by (Err r) = record { refusal = refusal_by r; distance = record { 0 = 0 } }
+
+-- The answers by their parts
 
 abbrev pub accepted_with : Queue → Changed
 accepted_with q = record { refusal = none; queue = q }

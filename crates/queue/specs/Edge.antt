@@ -3,10 +3,9 @@ use Rattle.std.specs.Prelude.{◌≡◌, List, [], ◌∷◌, ◌++◌, ℕ, zer
 use Rattle.refusal.specs.Numbers.{no_room}
 use Rattle.queue.specs.Limits.{max_gap, longest, filler}
 use Rattle.queue.specs.Row.{cell, queue_of}
-use Rattle.queue.specs.Calls.{accepted_with, insert_of, remove_of, clock_of, push_back_of}
+use Rattle.queue.specs.Calls.{Changed, accepted_with, insert_of, remove_of, clock_of, push_back_of}
 use Rattle.queue.specs.declared.Cell.{Cell}
 use Rattle.queue.specs.declared.Queue.{Queue}
-use Rattle.queue.specs.declared.Changed.{Changed}
 
 -- insert at the queue's own limits, and the answer that is accepted with these cells
 

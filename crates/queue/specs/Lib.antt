@@ -5,7 +5,6 @@ pub mod Sound
 pub mod Meaning
 pub mod Holds
 pub mod Calls
-pub mod Lent
 pub mod Steps
 pub mod Edge
 -- WHAT ONLY SERVES: what private functions give

@@ -6,10 +6,9 @@ use Rattle.refusal.specs.Numbers.{no_room, unsound}
 use Rattle.refusal.specs.Refusal.{check, first_of}
 use Rattle.queue.specs.Limits.{cell_count, filler}
 use Rattle.queue.specs.Row.{cell, cells_of, cells_for}
-use Rattle.queue.specs.Calls.{changed}
+use Rattle.queue.specs.Calls.{Changed, changed}
 use Rattle.queue.specs.declared.Cell.{Cell}
 use Rattle.queue.specs.declared.Queue.{Queue}
-use Rattle.queue.specs.declared.Changed.{Changed}
 
 -- what stands first
 abbrev pub first_cell : Queue → Cell

@@ -1,5 +1,5 @@
 // The relative event queue of document 01: a row of cells, each with the gap to the cell before it. Below, in this order: the types and limits, the
-// calls, the same calls on a queue that is lent, and the private functions. steps.rt has the total steps for a scheduler that has checked its state.
+// calls, and the private functions. steps.rt has the total steps for a scheduler that has checked its state.
 #![tactic(auto)]
 
 pub mod steps;
@@ -11,13 +11,12 @@ ghost use Rattle.queue.specs.Limits.{max_gap, cell_count, longest, filler};
 ghost use Rattle.queue.specs.Row.{cell, cells_of, queue_of, fillers_for};
 ghost use Rattle.queue.specs.Sound.{soundb};
 ghost use Rattle.queue.specs.Holds.{in_ticks, holdsb};
-ghost use Rattle.queue.specs.Calls.{accepted_with, refused_with, insert_of, remove_of, time_left_of, clock_of, take_of, push_back_of};
-ghost use Rattle.queue.specs.Lent.{took_of, apart_of};
+ghost use Rattle.queue.specs.Calls.{changed_by, taken_by, left_by, insert_of, remove_of, time_left_of, clock_of, take_of, push_back_of};
 ghost use Rattle.queue.specs.Steps.{first_cell};
 ghost use Rattle.queue.specs.Moves.{seenb, spacedb, gaps_of, sum_of, pass_of, Passed, next_of, Sought, nowhere_found};
 ghost use Rattle.queue.specs.Moves.{chain_for, chain_to, link_of, links_of, queue_with, moved_to, push_cells};
 
-use refusal::Refusal;
+use refusal::Reason;
 
 // An event (id 0 to 254) or a filler (id 255), with its gap to the cell before it. The first gap counts from now.
 #[repr(C)]
@@ -38,26 +37,6 @@ pub struct Queue {
 // A distance in clock ticks.
 #[derive(Clone, Copy)]
 pub struct Distance(pub u32);
-
-// The answer of insert, remove, clock and push back. A refused call gives the queue back as it was.
-#[derive(Clone, Copy)]
-pub struct Changed {
-    pub refusal: Refusal,
-    pub queue: Queue,
-}
-
-#[derive(Clone, Copy)]
-pub struct Taken {
-    pub refusal: Refusal,
-    pub id: u8,
-    pub queue: Queue,
-}
-
-#[derive(Clone, Copy)]
-pub struct Left {
-    pub refusal: Refusal,
-    pub distance: Distance,
-}
 
 impl Queue {
     pub const MAX_GAP: u32 = 65_535;
@@ -89,7 +68,122 @@ impl Queue {
 
 // THE CALLS
 
-pub fn sound(q: Queue) -> bool
+impl Queue {
+    pub fn is_sound(&self) -> bool
+        ensures { result ≡ soundb max_gap longest self.now }
+    {
+        sound(*self)
+    }
+
+    // The event stands at that distance, behind all that are due at the same time.
+    pub fn insert(&mut self, id: u8, delay: Distance) -> Result<(), Reason>
+        ensures { changed_by result self.new ≡ insert_of max_gap longest self.old id delay.0 }
+    {
+        if !self.is_sound() {
+            return Err(Reason::Unsound);
+        }
+        if id == Queue::FILLER {
+            return Err(Reason::IdOfFiller);
+        }
+        let f = find(*self, id);
+        if f.found {
+            return Err(Reason::IdThere);
+        }
+        if Queue::LONGEST < delay.0 {
+            return Err(Reason::DelayTooLong);
+        }
+        self.place(id, delay)
+    }
+
+    // The event is taken out, and its gap goes to the next.
+    pub fn remove(&mut self, id: u8) -> Result<(), Reason>
+        ensures { changed_by result self.new ≡ remove_of max_gap longest self.old id }
+    {
+        if !self.is_sound() {
+            return Err(Reason::Unsound);
+        }
+        let q = *self;
+        let f = find(q, id);
+        if !f.found {
+            return Err(Reason::NoSuchEvent);
+        }
+        let n = next_event(q, f.behind, f.at);
+        let then = chain_to(n, f.last);
+        let rest = down(q, n.behind, f.start + then.cells);
+        let clear = cleared(rest, q.len);
+        *self = linked(clear, f.start, then, n.id);
+        Ok(())
+    }
+
+    pub fn time_left(&self, id: u8) -> Result<Distance, Reason>
+        ensures { left_by result ≡ time_left_of max_gap longest self.now id }
+    {
+        if !self.is_sound() {
+            return Err(Reason::Unsound);
+        }
+        let f = find(*self, id);
+        if !f.found {
+            return Err(Reason::NoSuchEvent);
+        }
+        Ok(Distance(f.at))
+    }
+
+    // Every distance falls by 1.
+    pub fn clock(&mut self) -> Result<(), Reason>
+        ensures { changed_by result self.new ≡ clock_of max_gap longest self.old }
+    {
+        if !self.is_sound() {
+            return Err(Reason::Unsound);
+        }
+        if self.is_due() {
+            return Err(Reason::EventDue);
+        }
+        self.tick();
+        Ok(())
+    }
+
+    // The first event at distance 0 is taken out.
+    pub fn take(&mut self) -> Result<u8, Reason>
+        ensures { taken_by result self.new ≡ take_of max_gap longest self.old }
+    {
+        if !self.is_sound() {
+            return Err(Reason::Unsound);
+        }
+        if !self.is_due() {
+            return Err(Reason::NothingDue);
+        }
+        let id = self.first_id();
+        self.without_first();
+        Ok(id)
+    }
+
+    // Every distance grows by 1.
+    pub fn push_back(&mut self) -> Result<(), Reason>
+        ensures { changed_by result self.new ≡ push_back_of max_gap longest self.old }
+    {
+        if !self.is_sound() {
+            return Err(Reason::Unsound);
+        }
+        if no_room_before(*self) {
+            return Err(Reason::NoRoom);
+        }
+        if end_of(*self) == Queue::LONGEST {
+            return Err(Reason::AtLongest);
+        }
+        *self = pushed(*self);
+        Ok(())
+    }
+
+    // A test for a scheduler, which is no call of document 01: whether the queue is sound and holds exactly what it is to hold: for each id below 8 an event
+    // 1 to its reach away, and none where the reach is 0.
+    pub fn holds(&self, reach: &[Distance; Queue::HELD]) -> bool
+        ensures { result ≡ holdsb max_gap longest (in_ticks reach.now) self.now }
+    {
+        held(*self, *reach)
+    }
+}
+
+fn sound(q: Queue) -> bool
     ensures { result ≡ soundb max_gap longest q }
 {
     let n = q.len;
@@ -125,124 +219,7 @@ pub fn sound(q: Queue) -> bool
     total(q) == at + ids
 }
 
-// The event stands at that distance, behind all that are due at the same time.
-pub fn insert(q: Queue, id: u8, delay: Distance) -> Changed
-    ensures { result ≡ insert_of max_gap longest q id delay.0 }
-{
-    if !sound(q) {
-        return refuse(Refusal::UNSOUND, q);
-    }
-    if id == Queue::FILLER {
-        return refuse(Refusal::ID_OF_FILLER, q);
-    }
-    let f = find(q, id);
-    if f.found {
-        return refuse(Refusal::ID_THERE, q);
-    }
-    if Queue::LONGEST < delay.0 {
-        return refuse(Refusal::DELAY_TOO_LONG, q);
-    }
-    steps::placed(q, id, delay)
-}
-
-// The event is taken out, and its gap goes to the next.
-pub fn remove(q: Queue, id: u8) -> Changed
-    ensures { result ≡ remove_of max_gap longest q id }
-{
-    if !sound(q) {
-        return refuse(Refusal::UNSOUND, q);
-    }
-    let f = find(q, id);
-    if !f.found {
-        return refuse(Refusal::NO_SUCH_EVENT, q);
-    }
-    let n = next_event(q, f.behind, f.at);
-    let then = chain_to(n, f.last);
-    let rest = down(q, n.behind, f.start + then.cells);
-    let clear = cleared(rest, q.len);
-    accept(linked(clear, f.start, then, n.id))
-}
-
-pub fn time_left(q: Queue, id: u8) -> Left
-    ensures { result ≡ time_left_of max_gap longest q id }
-{
-    if !sound(q) {
-        return Left {
-            refusal: Refusal::numbered(Refusal::UNSOUND),
-            distance: Distance(0),
-        };
-    }
-    let f = find(q, id);
-    if !f.found {
-        return Left {
-            refusal: Refusal::numbered(Refusal::NO_SUCH_EVENT),
-            distance: Distance(0),
-        };
-    }
-    Left {
-        refusal: Refusal::none(),
-        distance: Distance(f.at),
-    }
-}
-
-// Every distance falls by 1.
-pub fn clock(q: Queue) -> Changed
-    ensures { result ≡ clock_of max_gap longest q }
-{
-    if !sound(q) {
-        return refuse(Refusal::UNSOUND, q);
-    }
-    if steps::due(q) {
-        return refuse(Refusal::EVENT_DUE, q);
-    }
-    accept(steps::ticked(q))
-}
-
-// The first event at distance 0 is taken out.
-pub fn take(q: Queue) -> Taken
-    ensures { result ≡ take_of max_gap longest q }
-{
-    if !sound(q) {
-        return Taken {
-            refusal: Refusal::numbered(Refusal::UNSOUND),
-            id: 0,
-            queue: q,
-        };
-    }
-    if !steps::due(q) {
-        return Taken {
-            refusal: Refusal::numbered(Refusal::NOTHING_DUE),
-            id: 0,
-            queue: q,
-        };
-    }
-    Taken {
-        refusal: Refusal::none(),
-        id: steps::first_id(q),
-        queue: steps::without_first(q),
-    }
-}
-
-// Every distance grows by 1.
-pub fn push_back(q: Queue) -> Changed
-    ensures { result ≡ push_back_of max_gap longest q }
-{
-    if !sound(q) {
-        return refuse(Refusal::UNSOUND, q);
-    }
-    if no_room_before(q) {
-        return refuse(Refusal::NO_ROOM, q);
-    }
-    if end_of(q) == Queue::LONGEST {
-        return refuse(Refusal::AT_LONGEST, q);
-    }
-    accept(pushed(q))
-}
-
-// A TEST FOR A SCHEDULER, which is no call of document 01
-
-// Whether the queue is sound and holds exactly what it is to hold: for each id below 8 an event 1 to its reach away, and none where the reach is 0.
-pub fn holds(q: Queue, reach: [Distance; Queue::HELD]) -> bool
+fn held(q: Queue, reach: [Distance; Queue::HELD]) -> bool
     ensures { result ≡ holdsb max_gap longest (in_ticks reach) q }
 {
     if !sound(q) {
@@ -297,74 +274,6 @@ fn all_seen(seen: [bool; Queue::IDS], reach: [Distance; Queue::HELD]) -> bool
         i = i + 1;
     }
     true
-}
-
-// THE SAME ON A QUEUE THAT IS LENT, for a kernel that holds one queue at a fixed address
-
-pub fn clock_in(q: &mut Queue) -> Refusal
-    ensures { (result ≡ (clock_of max_gap longest q.old).refusal) × (q.new ≡ (clock_of max_gap longest q.old).queue) }
-{
-    let changed = clock(*q);
-    *q = changed.queue;
-    changed.refusal
-}
-
-// What a take answers beside the queue.
-#[repr(C)]
-#[derive(Clone, Copy)]
-pub struct Took {
-    pub refusal: Refusal,
-    pub id: u8,
-}
-
-pub fn take_in(q: &mut Queue) -> Took
-    ensures { (result ≡ took_of (take_of max_gap longest q.old)) × (q.new ≡ (take_of max_gap longest q.old).queue) }
-{
-    let t = take_apart(*q);
-    *q = t.queue;
-    t.took
-}
-
-#[derive(Clone, Copy)]
-struct Apart {
-    took: Took,
-    queue: Queue,
-}
-
-// A take, with its answer apart from the queue.
-fn take_apart(q: Queue) -> Apart
-    ensures { result ≡ apart_of (take_of max_gap longest q) }
-{
-    let t = take(q);
-    let refusal = t.refusal;
-    let next = t.queue;
-    Apart {
-        took: Took {
-            refusal: refusal,
-            id: t.id,
-        },
-        queue: next,
-    }
-}
-
-// ANSWERS
-
-fn accept(q: Queue) -> Changed
-    ensures { result ≡ accepted_with q }
-{
-    Changed {
-        refusal: Refusal::none(),
-        queue: q,
-    }
-}
-
-fn refuse(number: u8, q: Queue) -> Changed
-    ensures { result ≡ refused_with number q }
-{
-    Changed {
-        refusal: Refusal::numbered(number),
-        queue: q,
-    }
 }
 
 // SOUNDNESS: one pass over the cells in use, and one sum over all

@@ -4,65 +4,106 @@ ghost use Rattle.std.specs.Prelude.{◌≡◌, false, ◌≤◌, leb, drop};
 ghost use Rattle.small.specs.Small.{pick};
 ghost use Rattle.queue.specs.Limits.{max_gap, cell_count};
 ghost use Rattle.queue.specs.Row.{cells_of};
+ghost use Rattle.queue.specs.Calls.{changed_by};
 ghost use Rattle.queue.specs.Steps.{first_cell, due_step, empty_step, falls_step, nearer_step, rest_step, tick_step, place_step, again_step};
 ghost use Rattle.queue.specs.Moves.{fullb, plainb};
 
-use super::{
-    Cell, Changed, Distance, Queue, accept, chain_of, chain_to, linked, moved, next_event, passed,
-    refuse,
-};
-use refusal::Refusal;
+use super::{Cell, Distance, Queue, chain_of, chain_to, linked, moved, next_event, passed};
+use refusal::Reason;
 
-pub fn is_empty(q: Queue) -> bool
-    ensures { result ≡ empty_step q }
-{
-    q.len == 0
-}
-
-// Whether the first gap falls at a clock tick and stays above 0.
-pub fn falls(q: Queue) -> bool
-    ensures { result ≡ falls_step q }
-{
-    let c = q.cells[0];
-    1 < c.gap
-}
-
-// Whether an event stands at distance 0.
-pub fn due(q: Queue) -> bool
-    ensures { result ≡ due_step q }
-{
-    if q.len == 0 {
-        return false;
+impl Queue {
+    pub fn is_empty(&self) -> bool
+        ensures { result ≡ empty_step self.now }
+    {
+        self.len == 0
     }
-    let c = q.cells[0];
-    c.gap == 0
-}
 
-pub fn first_id(q: Queue) -> u8
-    ensures { result ≡ (first_cell q).id }
-{
-    let c = q.cells[0];
-    c.id
-}
-
-// The first gap falls by 1, where it is not 0.
-pub fn nearer(q: Queue) -> Queue
-    ensures { result ≡ nearer_step q }
-{
-    let c = q.cells[0];
-    if c.gap == 0 {
-        return q;
+    // Whether the first gap falls at a clock tick and stays above 0.
+    pub fn falls(&self) -> bool
+        ensures { result ≡ falls_step self.now }
+    {
+        1 < self.cells[0].gap
     }
-    let mut next = q;
-    next.cells[0] = Cell {
-        id: c.id,
-        gap: c.gap - 1,
-    };
-    next
+
+    // Whether an event stands at distance 0.
+    pub fn is_due(&self) -> bool
+        ensures { result ≡ due_step self.now }
+    {
+        self.len != 0 && self.cells[0].gap == 0
+    }
+
+    pub fn first_id(&self) -> u8
+        ensures { result ≡ (first_cell self.now).id }
+    {
+        self.cells[0].id
+    }
+
+    // The first gap falls by 1, where it is not 0.
+    pub fn nearer(&mut self)
+        ensures { self.new ≡ nearer_step self.old }
+    {
+        self.cells[0].gap = self.cells[0].gap.saturating_sub(1);
+    }
+
+    // The first cell goes, every other in use moves one place down, and the last one's place is cleared.
+    pub fn without_first(&mut self)
+        ensures { self.new ≡ rest_step self.old }
+    {
+        *self = shifted(*self);
+    }
+
+    // The first gap falls by 1, and a filler that reaches 0 goes.
+    pub fn tick(&mut self)
+        ensures { self.new ≡ tick_step self.old }
+    {
+        if self.len == 0 {
+            return;
+        }
+        let c = self.cells[0];
+        if c.id != Queue::FILLER {
+            return self.nearer();
+        }
+        if c.gap != 1 {
+            return self.nearer();
+        }
+        self.without_first();
+    }
+
+    // An event is put in, with no test but that there is room.
+    pub fn place(&mut self, id: u8, delay: Distance) -> Result<(), Reason>
+        ensures { changed_by result self.new ≡ place_step max_gap self.old id delay.0 }
+    {
+        if Queue::CELLS < self.len {
+            return Err(Reason::Unsound);
+        }
+        let q = *self;
+        let d = delay.0;
+        let w = passed(q, d);
+        let n = next_event(q, w.next, w.at);
+        let own = chain_of(d - w.last);
+        let then = chain_to(n, d);
+        let at = w.start + own.cells;
+        let to = at + then.cells;
+        if Queue::CELLS < to + (q.len - n.behind) {
+            return Err(Reason::NoRoom);
+        }
+        let rest = moved(q, n.behind, to);
+        let more = linked(rest, at, then, n.id);
+        *self = linked(more, w.start, own, id);
+        Ok(())
+    }
+
+    // The first cell goes, and its event is put in again: each cell that it passes moves one place down, and the next gap falls. Where its new place is not
+    // plain it is taken out and put in.
+    pub fn again(&mut self, delay: Distance)
+        ensures { self.new ≡ again_step max_gap self.old delay.0 }
+    {
+        *self = again(*self, delay);
+    }
 }
 
 // The first cell goes, every other in use moves one place down, and the last one's place is cleared.
-pub fn without_first(q: Queue) -> Queue
+fn shifted(q: Queue) -> Queue
     ensures { result ≡ rest_step q }
 {
     let n = row_end(q);
@@ -81,48 +122,9 @@ pub fn without_first(q: Queue) -> Queue
     next
 }
 
-// The first gap falls by 1, and a filler that reaches 0 goes.
-pub fn ticked(q: Queue) -> Queue
-    ensures { result ≡ tick_step q }
-{
-    if q.len == 0 {
-        return q;
-    }
-    let c = q.cells[0];
-    if c.id != Queue::FILLER {
-        return nearer(q);
-    }
-    if c.gap != 1 {
-        return nearer(q);
-    }
-    without_first(q)
-}
-
-// An event is put in, with no test but that there is room.
-pub fn placed(q: Queue, id: u8, delay: Distance) -> Changed
-    ensures { result ≡ place_step max_gap q id delay.0 }
-{
-    if Queue::CELLS < q.len {
-        return refuse(Refusal::UNSOUND, q);
-    }
-    let d = delay.0;
-    let w = passed(q, d);
-    let n = next_event(q, w.next, w.at);
-    let own = chain_of(d - w.last);
-    let then = chain_to(n, d);
-    let at = w.start + own.cells;
-    let to = at + then.cells;
-    if Queue::CELLS < to + (q.len - n.behind) {
-        return refuse(Refusal::NO_ROOM, q);
-    }
-    let rest = moved(q, n.behind, to);
-    let more = linked(rest, at, then, n.id);
-    accept(linked(more, w.start, own, id))
-}
-
 // The first cell goes, and its event is put in again: each cell that it passes moves one place down, and the next gap falls. Where its new place is not plain
 // it is taken out and put in.
-pub fn again(q: Queue, delay: Distance) -> Queue
+fn again(q: Queue, delay: Distance) -> Queue
     ensures { result ≡ again_step max_gap q delay.0 }
 {
     let n = row_end(q);
@@ -145,8 +147,9 @@ pub fn again(q: Queue, delay: Distance) -> Queue
     }
     let gap = d - at;
     if !plain(q, i, gap, filler) {
-        let p = placed(without_first(q), f.id, delay);
-        return p.queue;
+        let mut p = shifted(q);
+        let _ = p.place(f.id, delay);
+        return p;
     }
     if i < n {
         let c = next.cells[i];

@@ -8,7 +8,8 @@ use borrow.Author.Tests.{not-false, eqb-false, leb-true}
 use lib.ListN.{length, drop, get_or, set}
 use Rattle.queue.specs.Limits.{max_gap, cell_count}
 use Rattle.queue.specs.Row.{cell, cells_of}
-use Rattle.queue.specs.Steps.{first_cell, again_step}
+use Rattle.queue.specs.Steps.{first_cell, place_step, again_step}
+use Rattle.queue.specs.Calls.{Changed}
 use Rattle.queue.specs.Moves.{plainb, queue_with}
 use Rattle.queue.specs.declared.Cell.{Cell}
 use Rattle.queue.specs.declared.Queue.{Queue}
@@ -110,7 +111,7 @@ plain-requires c =
 pub returns-then-not-plain : goal.returns-then-not-plain
 unfolding again_step
 returns-then-not-plain c =
-    rw (c.placed-p.ensures, c.without_first.ensures)
+    ap (λ (x : Changed). x.queue) c.place.ensures ∙ ap (λ (q : Queue). (place_step max_gap q (first_cell c.args.q).id c.args.delay.0).queue) c.shifted-p.ensures
 
 pub offset_bounds-next-i-then-i-n : goal.offset_bounds-next-i-then-i-n
 offset_bounds-next-i-then-i-n c =

@@ -1,0 +1,2 @@
+-- WHAT IS PROMISED OF THE CALLS
+pub mod OneOutcome

@@ -1,0 +1,2 @@
+-- BELIEVED: the definition that a contract speaks of
+pub mod Lent

@@ -14,9 +14,9 @@ use Rattle.scheduler.specs.Tick.{state_after, handled_of, tick_checks, ticked_wi
 use Rattle.scheduler.specs.Run.{answers_of, state_after_ticks, ticks_in, run_checks, batch_with, run_of}
 use Rattle.scheduler.specs.declared.Arrival.{Arrival}
 use Rattle.scheduler.specs.declared.Arrival.TheVariants.{Accepted}
-use Rattle.scheduler.specs.declared.Ticked.{Ticked}
-use Rattle.scheduler.specs.declared.Arrived.{Arrived}
-use Rattle.scheduler.specs.declared.Batch.{Batch}
+use Rattle.scheduler.specs.Tick.{Ticked}
+use Rattle.scheduler.specs.Arrive.{Arrived}
+use Rattle.scheduler.specs.Run.{Batched}
 
 -- TICK: the four steps
 
@@ -48,4 +48,4 @@ module _ (s : State) (k : ℕ) where
   run_done h =
       let n = ticks_in k in
       let r = first_of (run_checks s) in
-      given_next (λ (b : Batch). b.refusal.number) r (batch_with none (answers_of n s) n (state_after_ticks n s)) (batch_with r [] 0 s) refl h
+      given_next (λ (b : Batched). b.refusal.number) r (batch_with none (answers_of n s) n (state_after_ticks n s)) (batch_with r [] 0 s) refl h

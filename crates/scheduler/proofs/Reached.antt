@@ -9,8 +9,12 @@ use lib.Dec.{eqb}
 use borrow.Author.Tests.{eqb-true, eqb-false}
 use Rattle.small.specs.Small.{alter}
 use Rattle.small.proofs.Altered.{set_alter}
+use Rattle.small.proofs.Lists.{get_or_inside}
 use Rattle.table.specs.Limits.{most_work, entries}
-use Rattle.state.specs.State.{most_pending, zero_load, server_at, entry_at, task_at}
+use Rattle.table.specs.Table.{zero_server}
+use Rattle.table.proofs.Sizes.{past_server}
+use Rattle.state.proofs.Sizes.{past_entry}
+use Rattle.state.specs.State.{most_pending, zero_load, zero_entry, server_at, entry_at, task_at}
 use Rattle.state.specs.Sound.{stateb}
 use Rattle.state.specs.declared.Entry.{Entry}
 use Rattle.state.specs.declared.State.{State}
@@ -38,6 +42,18 @@ reached s i j z h k l =
       pending = below_at (entry_at s i).loads (loads_below (entry_at s i).loads (server_at s i).count e.loads) j;
       work = work_below (server_at s i).tasks (server_at s i).count v.tasks j;
     }
+
+-- and what the code reads of the state's arrays is what the definitions read
+module _ (s : State) (i : ℕ) (z : Eight s) where
+  pub server_read : i < entries → get_or s.table.servers i past_server ≡ server_at s i
+  server_read h = get_or_inside s.table.servers i past_server zero_server (omega (arith, z.servers))
+
+  pub entry_read : i < entries → get_or s.entries i past_entry ≡ entry_at s i
+  entry_read h = get_or_inside s.entries i past_entry zero_entry (omega (arith, z.entries))
+
+  -- a server of the table is one of the eight
+  pub server_there : stateb s ≡ true → i < s.table.count → i < entries
+  server_there h k = let few = ((stated s z).0 h).servers.count in omega arith
 
 -- the code's two stores, of the load and of its entry, are the arrival; z is what an entry past the end would be
 pub arrival_stored : (es : List Entry) (i j E : ℕ) (z : Entry) → let e = get_or es i z in i < length es → j < length e.loads

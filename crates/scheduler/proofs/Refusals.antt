@@ -19,9 +19,9 @@ use Rattle.state.proofs.Answers.{given_number, given_place}
 use Rattle.scheduler.specs.Arrive.{arrive_checks, arrive_of}
 use Rattle.scheduler.specs.Tick.{againb, tick_checks, tick_of}
 use Rattle.scheduler.specs.Run.{run_checks, run_of}
-use Rattle.scheduler.specs.declared.Ticked.{Ticked}
-use Rattle.scheduler.specs.declared.Arrived.{Arrived}
-use Rattle.scheduler.specs.declared.Batch.{Batch}
+use Rattle.scheduler.specs.Tick.{Ticked}
+use Rattle.scheduler.specs.Arrive.{Arrived}
+use Rattle.scheduler.specs.Run.{Batched}
 
 -- TICK
 
@@ -113,7 +113,7 @@ module _ (s : State) (i j : ℕ) where
 module _ (s : State) (k : ℕ) where
   run_number : (run_of s k).refusal.number ≡ (first_of (run_checks s)).number
   unfolding run_of
-  run_number = given_number (λ (b : Batch). b.refusal) (first_of (run_checks s)) _ _ refl refl
+  run_number = given_number (λ (b : Batched). b.refusal) (first_of (run_checks s)) _ _ refl refl
 
   -- "queue, state or table handed in isn't sound"
   pub run_31 : (run_of s k).refusal.number ≡ unsound ↔ (stateb s ≡ false)
@@ -126,4 +126,4 @@ module _ (s : State) (k : ℕ) where
   -- "the place (0 where none is named below)"
   pub run_place : (run_of s k).refusal.place ≡ 0
   unfolding run_of
-  run_place = given_place (λ (b : Batch). b.refusal) (first_of (run_checks s)) _ _ refl refl (no_place (run_checks s) refl)
+  run_place = given_place (λ (b : Batched). b.refusal) (first_of (run_checks s)) _ _ refl refl (no_place (run_checks s) refl)

@@ -15,8 +15,8 @@ use Rattle.state.specs.declared.Entry.{Entry}
 use Rattle.state.specs.declared.State.{State}
 use Rattle.state.specs.declared.Choice.TheVariants.{Idle}
 use Rattle.scheduler.specs.Tick.{state_after, handled_of, ticked_with, tick_of}
-use Rattle.scheduler.specs.Run.{batch_size, answer, answers_of, state_after_ticks}
-use Rattle.scheduler.specs.declared.Ticked.{Ticked}
+use Rattle.scheduler.specs.Run.{batch_size, answer, answers_of, answers_in, state_after_ticks}
+use Rattle.scheduler.specs.Tick.{Ticked}
 use Rattle.scheduler.specs.declared.Answer.{Answer}
 use Rattle.scheduler.proofs.TickSound.{tick_accepts}
 use Rattle.scheduler.proofs.TickParts.{Ticking}
@@ -24,10 +24,6 @@ use Rattle.scheduler.proofs.TickParts.{Ticking}
 -- a state of its parts
 abbrev pub state_with : Table → List Entry → Queue → State
 state_with t es q = record { entries = es; table = t; refills = q }
-
--- the array of the answers of k ticks
-abbrev pub answers_in : ℕ → State → List Answer
-answers_in k s = padded (answer Idle 0) batch_size (answers_of k s)
 
 -- what one tick answers
 abbrev answer_of : State → Answer

@@ -15,9 +15,9 @@ use Rattle.scheduler.specs.Arrive.{arrive_checks, arrived_with, arrive_of}
 use Rattle.scheduler.specs.Tick.{state_after, handled_of, tick_checks, ticked_with, tick_of}
 use Rattle.scheduler.specs.Run.{batch_size, answer, run_checks, batch_with, run_of}
 use Rattle.scheduler.specs.declared.Arrival.TheVariants.{Accepted}
-use Rattle.scheduler.specs.declared.Ticked.{Ticked}
-use Rattle.scheduler.specs.declared.Arrived.{Arrived}
-use Rattle.scheduler.specs.declared.Batch.{Batch}
+use Rattle.scheduler.specs.Tick.{Ticked}
+use Rattle.scheduler.specs.Arrive.{Arrived}
+use Rattle.scheduler.specs.Run.{Batched}
 
 -- TICK
 
@@ -50,5 +50,5 @@ module _ (s : State) (k : ℕ) where
   unfolding run_of
   run_unchanged h =
       let r = first_of (run_checks s) in
-      let e : run_of s k ≡ batch_with r [] 0 s = given_kept (λ (b : Batch). b.refusal.number) r _ (batch_with r [] 0 s) refl h in
-      (ap (λ (b : Batch). b.state) e, ap (λ (b : Batch). b.count) e, ap (λ (b : Batch). b.answers) e)
+      let e : run_of s k ≡ batch_with r [] 0 s = given_kept (λ (b : Batched). b.refusal.number) r _ (batch_with r [] 0 s) refl h in
+      (ap (λ (b : Batched). b.state) e, ap (λ (b : Batched). b.count) e, ap (λ (b : Batched). b.answers) e)

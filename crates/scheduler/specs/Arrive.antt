@@ -1,9 +1,11 @@
 -- What an arrival does to a task, and the arrival call.
-use Rattle.std.specs.Prelude.{Bool, true, false, not, List, [], ◌∷◌, ℕ, ◌+◌, leb, ltb, eqb}
+use Rattle.std.specs.Prelude.{Bool, true, false, not, List, [], ◌∷◌, ℕ, ◌+◌, leb, ltb, eqb, Result, Ok, Err}
 use Rattle.small.specs.Small.{pick, alter}
 use Rattle.refusal.specs.Numbers.{unsound, no_server, no_task, task_periodic}
 use Rattle.refusal.specs.Refusal.{none, Check, check, first_of}
+use Rattle.refusal.specs.Reason.{refusal_in}
 use Rattle.refusal.specs.declared.Refusal.{Refusal}
+use Rattle.refusal.specs.declared.Reason.{Reason}
 use Rattle.table.specs.Table.{release_number}
 use Rattle.state.specs.State.{most_pending, most_lost, load, server_at, task_at, load_at}
 use Rattle.state.specs.Sound.{stateb}
@@ -12,7 +14,6 @@ use Rattle.state.specs.declared.Entry.{Entry}
 use Rattle.state.specs.declared.State.{State}
 use Rattle.scheduler.specs.declared.Arrival.{Arrival}
 use Rattle.scheduler.specs.declared.Arrival.TheVariants.{Accepted, Lost}
-use Rattle.scheduler.specs.declared.Arrived.{Arrived}
 
 -- "An arrival whose E would bring pending work above 1,000,000 is lost"
 abbrev pub fitsb : ℕ → Load → Bool
@@ -59,6 +60,12 @@ abbrev pub arrived_state : State → ℕ → ℕ → State
 arrived_state s i j =
     with_entries (alter (λ (e : Entry). with_loads (with_arrival (task_at (server_at s i) j).work.0 j e.loads) e) s.entries i) s
 
+-- an arrival's answer, and the state after it
+pub record Arrived : Type 0 where
+  pub state : State
+  pub refusal : Refusal
+  pub arrival : Arrival
+
 abbrev pub arrived_with : Refusal → Arrival → State → Arrived
 arrived_with r a s = record { state = s; refusal = r; arrival = a }
 
@@ -68,3 +75,12 @@ arrive_of s i j =
     pick (eqb r.number 0)
     (arrived_with none (arrival_by (fitsb (task_at (server_at s i) j).work.0 (load_at s i j))) (arrived_state s i j))
     (arrived_with r Accepted s)
+
+-- what the outcome of the call, and the state that it leaves, are as that answer
+
+abbrev pub arrival_in : Result Arrival Reason → Arrival
+arrival_in (Ok a) = a
+arrival_in (Err r) = Accepted
+
+abbrev pub arrived_by : Result Arrival Reason → State → Arrived
+arrived_by o s = arrived_with (refusal_in o) (arrival_in o) s

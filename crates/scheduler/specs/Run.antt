@@ -1,10 +1,12 @@
 -- A run of k ticks in one call, for the desk and for catching up: the answers of k single ticks in a row and the state after them. At most 64: a run of
 -- more is a run of 64, and the answer says how many there were.
-use Rattle.std.specs.Prelude.{not, List, [], ◌∷◌, ℕ, zero, suc, min, eqb}
+use Rattle.std.specs.Prelude.{not, List, [], ◌∷◌, ℕ, zero, suc, min, eqb, Result, Ok, Err}
 use Rattle.small.specs.Small.{pick, padded}
 use Rattle.refusal.specs.Numbers.{unsound}
 use Rattle.refusal.specs.Refusal.{none, Check, check, first_of}
+use Rattle.refusal.specs.Reason.{refusal_in}
 use Rattle.refusal.specs.declared.Refusal.{Refusal}
+use Rattle.refusal.specs.declared.Reason.{Reason}
 use Rattle.state.specs.Sound.{stateb}
 use Rattle.state.specs.declared.State.{State}
 use Rattle.state.specs.declared.Choice.{Choice}
@@ -28,16 +30,36 @@ abbrev pub state_after_ticks : ℕ → State → State
 state_after_ticks zero s = s
 state_after_ticks (suc k) s = state_after_ticks k (tick_of s).state
 
+-- the array of the answers of k ticks
+abbrev pub answers_in : ℕ → State → List Answer
+answers_in k s = padded (answer Idle 0) batch_size (answers_of k s)
+
 abbrev pub ticks_in : ℕ → ℕ
 ticks_in k = min k batch_size
 
 abbrev pub run_checks : State → List Check
 run_checks s = check unsound (not (stateb s)) ∷ []
 
-abbrev pub batch_with : Refusal → List Answer → ℕ → State → Batch
+-- the answers of a run, and the state after it
+pub record Batched : Type 0 where
+  pub answers : List Answer
+  pub state : State
+  pub refusal : Refusal
+  pub count : ℕ
+
+abbrev pub batch_with : Refusal → List Answer → ℕ → State → Batched
 batch_with r answers n s = record { answers = padded (answer Idle 0) batch_size answers; state = s; refusal = r; count = n }
 
-unfoldable pub run_of : State → ℕ → Batch
+unfoldable pub run_of : State → ℕ → Batched
 run_of s k =
     let r = first_of (run_checks s) in
     pick (eqb r.number 0) (batch_with none (answers_of (ticks_in k) s) (ticks_in k) (state_after_ticks (ticks_in k) s)) (batch_with r [] 0 s)
+
+-- what the outcome of the call, and the state that it leaves, are as that answer
+
+abbrev pub batch_in : Result Batch Reason → Batch
+batch_in (Ok b) = b
+batch_in (Err r) = record { answers = padded (answer Idle 0) batch_size []; count = 0 }
+
+abbrev pub batch_by : Result Batch Reason → State → Batched
+batch_by o s = record { answers = (batch_in o).answers; state = s; refusal = refusal_in o; count = (batch_in o).count }

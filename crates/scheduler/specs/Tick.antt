@@ -1,9 +1,11 @@
 -- One tick: document 01's four steps, in its order, over the queue's own definitions, and at the end what polling servers give up (document 02, #101).
-use Rattle.std.specs.Prelude.{Bool, true, not, List, [], ◌∷◌, ℕ, ◌+◌, ◌-◌, eqb, length}
+use Rattle.std.specs.Prelude.{Bool, true, not, List, [], ◌∷◌, ℕ, ◌+◌, ◌-◌, eqb, length, Result, Ok, Err}
 use Rattle.small.specs.Small.{pick, both, alter}
 use Rattle.refusal.specs.Numbers.{unsound, no_room_again}
 use Rattle.refusal.specs.Refusal.{none, Check, check, first_of}
+use Rattle.refusal.specs.Reason.{refusal_in}
 use Rattle.refusal.specs.declared.Refusal.{Refusal}
+use Rattle.refusal.specs.declared.Reason.{Reason}
 use Rattle.queue.specs.Limits.{max_gap, longest}
 use Rattle.queue.specs.Row.{Event, events_of}
 use Rattle.queue.specs.Calls.{clock_of, take_of, insert_of}
@@ -21,7 +23,7 @@ use Rattle.state.specs.declared.State.{State}
 use Rattle.state.specs.declared.Choice.{Choice}
 use Rattle.state.specs.declared.Choice.TheVariants.{Idle}
 use Rattle.scheduler.specs.Arrive.{with_arrival}
-use Rattle.scheduler.specs.declared.Ticked.{Ticked}
+use Rattle.scheduler.specs.declared.Answer.{Answer}
 
 -- STEP 3: "The server's budget and the chosen task's work fall by 1."
 
@@ -138,6 +140,13 @@ againb s = both (room_of (period_at s) s.refills) (all_roomb s.table.servers s.e
 abbrev pub tick_checks : State → List Check
 tick_checks s = check unsound (not (stateb s)) ∷ check no_room_again (not (againb s)) ∷ []
 
+-- a tick's answer, and the state after it
+pub record Ticked : Type 0 where
+  pub state : State
+  pub refusal : Refusal
+  pub choice : Choice
+  pub handled : ℕ
+
 abbrev pub ticked_with : Refusal → Choice → ℕ → State → Ticked
 ticked_with r c n s = record { state = s; refusal = r; choice = c; handled = n }
 
@@ -145,3 +154,12 @@ unfoldable pub tick_of : State → Ticked
 tick_of s =
     let r = first_of (tick_checks s) in
     pick (eqb r.number 0) (ticked_with none (choice_of s) (handled_of s) (state_after s)) (ticked_with r Idle 0 s)
+
+-- what the outcome of the call, and the state that it leaves, are as that answer
+
+abbrev pub answer_in : Result Answer Reason → Answer
+answer_in (Ok a) = a
+answer_in (Err r) = record { choice = Idle; handled = 0 }
+
+abbrev pub ticked_by : Result Answer Reason → State → Ticked
+ticked_by o s = ticked_with (refusal_in o) (answer_in o).choice (answer_in o).handled s

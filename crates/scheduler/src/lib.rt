@@ -2,7 +2,6 @@
 #![tactic(auto)]
 
 ghost use Rattle.std.specs.Prelude.{◌≡◌, true, ◌≤◌, ltb};
-ghost use Rattle.refusal.specs.Refusal.{none, refused};
 ghost use Rattle.queue.specs.Limits.{longest};
 ghost use Rattle.queue.specs.Steps.{empty_step, falls_step, nearer_step};
 ghost use Rattle.table.specs.Limits.{most_work, entries};
@@ -10,23 +9,14 @@ ghost use Rattle.table.specs.Sound.{tableb};
 ghost use Rattle.state.specs.State.{most_pending, with_budget};
 ghost use Rattle.state.specs.Sound.{entryb, stateb};
 ghost use Rattle.state.specs.Choice.{first_pending, choice_by};
-ghost use Rattle.scheduler.specs.Arrive.{fitsb, load_after, arrival_by, arrived_with, arrive_of};
-ghost use Rattle.scheduler.specs.Tick.{charge, tick_of};
-ghost use Rattle.scheduler.specs.Run.{batch_size, answers_of, state_after_ticks, batch_with, run_of};
+ghost use Rattle.scheduler.specs.Arrive.{fitsb, load_after, arrival_by, arrived_by, arrive_of};
+ghost use Rattle.scheduler.specs.Tick.{charge, ticked_by, tick_of};
+ghost use Rattle.scheduler.specs.Run.{batch_size, answers_in, state_after_ticks, batch_by, run_of};
 ghost use Rattle.scheduler.specs.Moves.{tabledb, Clocked, due_turn, served_turn, with_queue, PolledBelow};
-ghost use Rattle.scheduler.specs.declared.Arrival.TheVariants.{Accepted};
 
-use refusal::Refusal;
+use refusal::Reason;
 use state::{Choice, Entry, Load, State};
 use table::{Served, Server, Table};
-
-#[derive(Clone, Copy)]
-pub struct Ticked {
-    pub state: State,
-    pub refusal: Refusal,
-    pub choice: Choice,
-    pub handled: u32,
-}
 
 #[derive(Clone, Copy)]
 pub enum Arrival {
@@ -34,109 +24,72 @@ pub enum Arrival {
     Lost,
 }
 
-#[derive(Clone, Copy)]
-pub struct Arrived {
-    pub state: State,
-    pub refusal: Refusal,
-    pub arrival: Arrival,
-}
-
-// One tick's answer in a run.
+// What a tick answers: whom it served, and how many events it handled.
 #[derive(Clone, Copy)]
 pub struct Answer {
     pub choice: Choice,
     pub handled: u32,
 }
 
-// The answers of `count` ticks in a row, and the state after them.
+// The answers of `count` ticks in a row.
 #[derive(Clone, Copy)]
 pub struct Batch {
     pub answers: [Answer; State::BATCH],
-    pub state: State,
-    pub refusal: Refusal,
     pub count: usize,
 }
 
 // THE CALLS
 
 // One tick: the choice, the charge, all queues clocked, and what polling servers give up. It is the run of one.
-pub fn tick(s: State) -> Ticked
-    ensures { result ≡ tick_of s }
+pub fn tick(s: &mut State) -> Result<Answer, Reason>
+    ensures { ticked_by result s.new ≡ tick_of s.old }
 {
-    if !state::sound(s) {
-        return Ticked {
-            state: s,
-            refusal: Refusal::numbered(Refusal::UNSOUND),
-            choice: Choice::Idle,
-            handled: 0,
-        };
+    if !state::sound(*s) {
+        return Err(Reason::Unsound);
     }
-    let b = ticks(s, 1);
-    let next = b.state;
-    let a = b.answers[0];
-    let c = a.choice;
-    Ticked {
-        state: next,
-        refusal: Refusal::none(),
-        choice: c,
-        handled: a.handled,
-    }
+    let b = ticks(*s, 1);
+    *s = b.state;
+    Ok(b.answers[0])
 }
 
 // A number of ticks in a row, at most 64, with one check of the state.
-pub fn run(s: State, k: usize) -> Batch
-    ensures { result ≡ run_of s k }
+pub fn run(s: &mut State, k: usize) -> Result<Batch, Reason>
+    ensures { batch_by result s.new ≡ run_of s.old k }
 {
-    if !state::sound(s) {
-        let zero = Answer {
-            choice: Choice::Idle,
-            handled: 0,
-        };
-        return Batch {
-            answers: [zero; State::BATCH],
-            state: s,
-            refusal: Refusal::numbered(Refusal::UNSOUND),
-            count: 0,
-        };
+    if !state::sound(*s) {
+        return Err(Reason::Unsound);
     }
-    ticks(s, small::least(k, State::BATCH))
+    let count = k.min(State::BATCH);
+    let b = ticks(*s, count);
+    *s = b.state;
+    let answers = b.answers;
+    Ok(Batch { answers, count })
 }
 
 // An arrival at a server's task, which takes effect for the next tick.
-pub fn arrive(s: State, server: u8, task: u8) -> Arrived
-    ensures { result ≡ arrive_of s server task }
+pub fn arrive(s: &mut State, server: u8, task: u8) -> Result<Arrival, Reason>
+    ensures { arrived_by result s.new ≡ arrive_of s.old server task }
 {
-    if !state::sound(s) {
-        return refuse_arrival(Refusal::UNSOUND, s);
+    if !state::sound(*s) {
+        return Err(Reason::Unsound);
     }
-    let table = s.table;
     let i = server as usize;
-    if table.count <= i {
-        return refuse_arrival(Refusal::NO_SERVER, s);
+    if s.table.count <= i {
+        return Err(Reason::NoServer);
     }
-    let entry = table.servers[i];
+    let entry = s.table.servers[i];
     let j = task as usize;
     if entry.count <= j {
-        return refuse_arrival(Refusal::NO_TASK, s);
+        return Err(Reason::NoTask);
     }
     let t = entry.tasks[j];
     let release = t.release;
     if table::is_periodic(release) {
-        return refuse_arrival(Refusal::TASK_PERIODIC, s);
+        return Err(Reason::TaskPeriodic);
     }
     let work = t.work;
-    let e = s.entries[i];
-    let l = e.loads[j];
-    let mut changed = e;
-    let after = load_after(l, work.0);
-    changed.loads[j] = after;
-    let mut next = s;
-    next.entries[i] = changed;
-    Arrived {
-        state: next,
-        refusal: Refusal::none(),
-        arrival: arrival_of(l, work.0),
-    }
+    let e = &mut s.entries[i];
+    Ok(arrives(&mut e.loads[j], work.0))
 }
 
 // THE TICK
@@ -176,25 +129,20 @@ fn charged(e: Entry, j: usize) -> Entry
     next
 }
 
-// The load after an arrival of this work: it is added, or lost.
-fn load_after(l: Load, work: u32) -> Load
-    requires { (l.pending.0 ≤ most_pending) × (work ≤ most_work) }
-    ensures { result ≡ load_after work l }
+// Work arrives at a task: it is added to what is pending, or lost and counted.
+fn arrives(l: &mut Load, work: u32) -> Arrival
+    requires { (l.old.pending.0 ≤ most_pending) × (work ≤ most_work) }
+    ensures { (l.new ≡ load_after work l.old) × (result ≡ arrival_by (fitsb work l.old)) }
 {
-    let p = l.pending;
-    if p.0 + work <= State::MOST_PENDING {
-        return Load {
-            pending: Served(p.0 + work),
-            lost: l.lost,
-        };
+    let sum = l.pending.0 + work;
+    if sum <= State::MOST_PENDING {
+        l.pending = Served(sum);
+        return Arrival::Accepted;
     }
-    if State::MOST_LOST <= l.lost {
-        return l;
+    if l.lost < State::MOST_LOST {
+        l.lost = l.lost + 1;
     }
-    Load {
-        pending: p,
-        lost: l.lost + 1,
-    }
+    Arrival::Lost
 }
 
 // A server's entry after a tick, and how many of its arrivals were due.
@@ -216,8 +164,7 @@ fn all_due(s: Server, e: Entry) -> EntryTurn
         let j = id as usize;
         let t = s.tasks[j];
         let work = t.work;
-        let l = load_after(next.loads[j], work.0);
-        next.loads[j] = l;
+        arrives(&mut next.loads[j], work.0);
         let r = t.release;
         let q = queue::steps::again(next.arrivals, table::period_of(r));
         next.arrivals = q;
@@ -287,10 +234,17 @@ fn polled_entries(t: Table) -> usize
     0
 }
 
+// What ticks in a row answer, and the state after them.
+#[derive(Clone, Copy)]
+struct Ran {
+    answers: [Answer; State::BATCH],
+    state: State,
+}
+
 // So many ticks of a state that is sound. The state's parts are locals, and a tick stores single entries: no tick copies the state.
-fn ticks(s: State, n: usize) -> Batch
+fn ticks(s: State, n: usize) -> Ran
     requires { (stateb s ≡ true) × (n ≤ batch_size) }
-    ensures { result ≡ batch_with none (answers_of n s) n (state_after_ticks n s) }
+    ensures { (result.answers ≡ answers_in n s) × (result.state ≡ state_after_ticks n s) }
 {
     let zero = Answer {
         choice: Choice::Idle,
@@ -365,33 +319,5 @@ fn ticks(s: State, n: usize) -> Batch
         table: table,
         refills: refills,
     };
-    Batch {
-        answers: answers,
-        state: state,
-        refusal: Refusal::none(),
-        count: n,
-    }
-}
-
-// ARRIVALS
-
-fn refuse_arrival(number: u8, s: State) -> Arrived
-    ensures { result ≡ arrived_with (refused number 0) Accepted s }
-{
-    Arrived {
-        state: s,
-        refusal: Refusal::numbered(number),
-        arrival: Arrival::Accepted,
-    }
-}
-
-fn arrival_of(l: Load, work: u32) -> Arrival
-    requires { (l.pending.0 ≤ most_pending) × (work ≤ most_work) }
-    ensures { result ≡ arrival_by (fitsb work l) }
-{
-    let p = l.pending;
-    if p.0 + work <= State::MOST_PENDING {
-        return Arrival::Accepted;
-    }
-    Arrival::Lost
+    Ran { answers, state }
 }

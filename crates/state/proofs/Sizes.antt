@@ -26,7 +26,7 @@ state_eight s vs k = record {
   entries = k.1.1.0.1.0.1;
 }
 
-loads_full : (es : List Entry) (us : List Val) (i : ℕ) (z : Entry) → i < length es → shadow (each (entry.the_row).Denot (entry.the_row).own_val es us) → length (get_or es i z).loads ≡ entries
+pub loads_full : (es : List Entry) (us : List Val) (i : ℕ) (z : Entry) → i < length es → shadow (each (entry.the_row).Denot (entry.the_row).own_val es us) → length (get_or es i z).loads ≡ entries
 loads_full [] us i z h k = absurd (omega arith)
 loads_full (e ∷ es) [] i z h k = absurd k
 loads_full (e ∷ es) (u ∷ us) zero z h k = k.0.1.1.0.1.0.1

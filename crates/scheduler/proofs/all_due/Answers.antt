@@ -37,14 +37,10 @@ pub bounds-next-j : goal.bounds-next-j
 bounds-next-j c =
     small (goal.at.bounds-next-j c).After-first_id-id
 
-pub load_after-l-requires : goal.load_after-l-requires
-load_after-l-requires c =
+pub arrives-requires : goal.arrives-requires
+arrives-requires c =
     let k = c.loop-s.invariant.0 in
     (below_at c.loop-s.next.loads k.loads c.first_id-id.result, tabled_work c.args.s k.server c.first_id-id.result)
-
-pub bounds-next-j-in-loop-s : goal.bounds-next-j-in-loop-s
-bounds-next-j-in-loop-s c =
-    small (goal.at.bounds-next-j-in-loop-s c).After-first_id-id
 
 -- one turn is one arrival
 module _ (c : After-again-q) where
@@ -58,13 +54,13 @@ module _ (c : After-again-q) where
   j = c.first_id-id.result
 
   abbrev after : Entry
-  after = record { loads = set e.loads j c.load_after-l.result; arrivals = c.again-q.result; budget = e.budget }
+  after = record { loads = set e.loads j c.arrives.new.l; arrivals = c.again-q.result; budget = e.budget }
 
   one : after ≡ one_arrival s e
   unfolding one_arrival
   one =
       let l =
-      ap (set e.loads j) c.load_after-l.ensures
+      ap (set e.loads j) c.arrives.ensures.0
       ∙ set_alter (load_after (task_at s j).work.0) e.loads j zero_load (rw c.loop-s.invariant.3 (small (goal.at.After-again-q c).After-first_id-id)) in
       let q : c.again-q.result ≡ again_step max_gap e.arrivals (task_delay s j) = rw c.period_of.ensures at c.again-q.ensures in
       let d = c.first_id-id.ensures in

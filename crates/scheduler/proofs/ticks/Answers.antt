@@ -11,10 +11,10 @@ use Rattle.state.specs.Choice.{chosen_of}
 use Rattle.state.specs.declared.State.{State}
 use Rattle.state.proofs.Sizes.{state_eight, state_loads}
 use Rattle.state.proofs.Stated.{state_parts}
-use Rattle.scheduler.specs.Run.{batch_size, answer, state_after_ticks}
+use Rattle.scheduler.specs.Run.{batch_size, answer, answers_in, state_after_ticks}
 use Rattle.scheduler.proofs.Refilling.{Refilled, refill_start, refill_small, refill_less, refill_more, refills_turning, refills_done}
 use Rattle.scheduler.proofs.TickParts.{serve_start, serve_tabled, serve_sound, serve_few, serve_more, serve_falls, serve_still, Ticking, tick_kept, Charged, chosen_within, chosen_budget, charge_one, charge_none, charged_full, refills_fall, refilled_fitting, tick_state, tick_count, lapse_start, lapse_given, lapse_none}
-use Rattle.scheduler.proofs.Runs.{state_with, answers_in, state_next, answer_next}
+use Rattle.scheduler.proofs.Runs.{state_with, state_next, answer_next}
 use Rattle.scheduler.proofs.ticks.Goals as goal
 use Rattle.scheduler.proofs.ticks.Goals.{After-chosen-c, After-falls-in-loop-i, After-first_id-id, After-loop-id, At-loop-k, In-loop-id, In-loop-p, Joined-c-lt-ENTRIES, Joined-falls, then-c-lt-ENTRIES, else-c-lt-ENTRIES, then-falls, else-falls}
 
@@ -221,4 +221,4 @@ returns c =
     let n : c.loop-k.k ≡ c.args.n = omega (arith, c.loop-k-test.false) in
     let a = c.loop-k.invariant.3 ∙ ap (λ (k : ℕ). answers_in k (called (goal.at.returns c).At-loop-k)) n in
     let e = c.loop-k.invariant.2 ∙ ap (λ (k : ℕ). state_after_ticks k (called (goal.at.returns c).At-loop-k)) n in
-    λ k. record { answers = a k; state = e k; refusal = c.none.ensures k; count = c.args.n }
+    (a, e)

@@ -4,10 +4,10 @@
 use mathlib.Core.Path.{◌≡◌}
 use Prim.Native.Nat.{◌-◌, ◌≤◌}
 use Rattle.table.specs.Limits.{entries}
-use Rattle.scheduler.specs.Run.{state_after_ticks}
+use Rattle.scheduler.specs.Run.{answers_in, state_after_ticks}
 use Rattle.scheduler.proofs.Refilling.{Refilling, left_count}
 use Rattle.scheduler.proofs.TickParts.{Serving, Ticking, Lapsing}
-use Rattle.scheduler.proofs.Runs.{state_with, answers_in}
+use Rattle.scheduler.proofs.Runs.{state_with}
 use Rattle.scheduler.proofs.ticks.Given as goal
 
 abbrev pub invariant-loop-id : goal.invariant-loop-id

@@ -7,3 +7,4 @@ pub mod Decimals
 pub mod DecimalLaws
 pub mod Pieces
 pub mod Batch
+pub mod Lengths

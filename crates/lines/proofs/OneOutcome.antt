@@ -3,21 +3,23 @@
 -- at exit. Assumes nothing.
 use mathlib.Core.List.{List}
 use Prim.Native.Nat.{ℕ}
+use Rattle.std.specs.Prelude.{Result}
 use Rattle.small.proofs.Outcome.{One, same}
-use Rattle.field.specs.declared.Written.{Written}
+use Rattle.refusal.specs.declared.Reason.{Reason}
+use Rattle.field.proofs.Answers.{written_one}
 use Rattle.lines.proofs.header.Reads as header
 use Rattle.lines.proofs.message_line.Reads as message-line
 use Rattle.lines.proofs.ticks.Reads as ticks
 use Rattle.lines.proofs.end.Reads as end
 
-pub header_one : One {B = Written × List ℕ} header.Post (λ κs x e. (x, e.0.now))
-header_one κs a x y e f p q = λ i. (same p.0 q.0 i, same p.1 q.1 i)
+pub header_one : One {B = Result ℕ Reason × List ℕ} header.Post (λ κs x e. (x, e.0.now))
+header_one κs a x y e f p q = λ i. (written_one x y (same p.0 q.0) i, same p.1 q.1 i)
 
-pub message_line_one : One {B = Written × List ℕ} message-line.Post (λ κs x e. (x, e.0.now))
-message_line_one κs a x y e f p q = λ i. (same p.0 q.0 i, same p.1 q.1 i)
+pub message_line_one : One {B = Result ℕ Reason × List ℕ} message-line.Post (λ κs x e. (x, e.0.now))
+message_line_one κs a x y e f p q = λ i. (written_one x y (same p.0 q.0) i, same p.1 q.1 i)
 
-pub ticks_one : One {B = Written × List ℕ} ticks.Post (λ κs x e. (x, e.0.now))
-ticks_one κs a x y e f p q = λ i. (same p.0 q.0 i, same p.1 q.1 i)
+pub ticks_one : One {B = Result ℕ Reason × List ℕ} ticks.Post (λ κs x e. (x, e.0.now))
+ticks_one κs a x y e f p q = λ i. (written_one x y (same p.0 q.0) i, same p.1 q.1 i)
 
-pub end_one : One {B = Written × List ℕ} end.Post (λ κs x e. (x, e.0.now))
-end_one κs a x y e f p q = λ i. (same p.0 q.0 i, same p.1 q.1 i)
+pub end_one : One {B = Result ℕ Reason × List ℕ} end.Post (λ κs x e. (x, e.0.now))
+end_one κs a x y e f p q = λ i. (written_one x y (same p.0 q.0) i, same p.1 q.1 i)

@@ -3,8 +3,7 @@
 use Rattle.std.specs.Prelude.{List, [], ◌∷◌, ◌++◌, ℕ, zero, suc, ◌+◌, ◌*◌, ltb, length}
 use Rattle.refusal.specs.Numbers.{buffer_short}
 use Rattle.refusal.specs.Refusal.{Check, check, first_of}
-use Rattle.field.specs.Write.{written}
-use Rattle.field.specs.declared.Written.{Written}
+use Rattle.field.specs.Write.{Written, written}
 use Rattle.state.specs.declared.Choice.{Choice}
 use Rattle.state.specs.declared.Choice.TheVariants.{Idle, Burning, Running}
 use Rattle.scheduler.specs.Run.{batch_size}

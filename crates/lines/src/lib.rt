@@ -1,21 +1,21 @@
 // What the trace program writes, line by line: document 01, "The trace program". Each public function puts one thing into a lent buffer from a place on and
 // answers how many bytes it wrote. Where the thing does not fit it is refused with 32, and no byte is changed.
+// The place stays beside the buffer: it may lie past the end, where `&mut out[at..]` is no slice, and a struct of both would have each clause say `over` of a
+// field behind its `&mut`, which is no plainer.
 #![tactic(auto)]
 
-ghost use Rattle.std.specs.Prelude.{◌≡◌, [], ◌∷◌, ◌+◌, ◌≤◌, ◌<◌, leb, length};
+ghost use Rattle.std.specs.Prelude.{◌≡◌, ℕ, [], ◌∷◌, ◌++◌, ◌+◌, ◌≤◌, ◌<◌, List, leb, length, take};
 ghost use Rattle.field.specs.Field.{over};
+ghost use Rattle.field.specs.Write.{written_by};
 ghost use Rattle.lines.specs.Decimal.{decimal};
-ghost use Rattle.lines.specs.Lines.{space, minus, header_text, mark_text, choice_text, tick_line, answer_lines, line_text, end_line, put_of};
-ghost use Rattle.state.specs.declared.Choice.TheVariants.{Idle, Burning, Running};
-ghost use Rattle.scheduler.specs.Run.{batch_size};
-ghost use Rattle.lines.specs.declared.Line.TheVariants.{Nothing, Refused, Lost};
+ghost use Rattle.lines.specs.Lines.{room, header_text, mark_text, choice_text, tick_line, answer_lines, line_text, end_line, put_of};
 
-use field::Written;
-use refusal::Refusal;
+use refusal::Reason;
 use scheduler::Answer;
 use state::{Choice, State};
+use std::marker::Model;
 
-// What a message makes the program write beside its ticks.
+// What a message makes the program write beside its ticks. The refusal stays a number: `message_line` writes every u8, and a `Reason` would be a narrower type.
 #[derive(Clone, Copy)]
 pub enum Line {
     Nothing,
@@ -28,291 +28,229 @@ pub const ROOM: usize = 64;
 
 pub const BATCH_ROOM: usize = ROOM * State::BATCH;
 
-const HEADER: usize = 17;
-
-// The highest power of ten that 64 bits hold: a number has at most one digit more than that.
-const MOST_POWER: usize = 19;
-
 // `tick server task`
-pub fn header(out: &mut [u8], at: usize) -> Written
-    ensures answer { result ≡ put_of at header_text out.old }
+pub fn header(out: &mut [u8], at: usize) -> Result<usize, Reason>
+    ensures answer { written_by result ≡ put_of at header_text out.old }
     ensures buffer { out.new ≡ over at header_text out.old }
 {
-    if !fits(out, at, HEADER) {
-        return Written::refused(Refusal::BUFFER_SHORT);
-    }
-    word(out, at, b"tick server task\n");
-    Written::whole(HEADER)
+    put(out, at, b"tick server task\n")
 }
 
 // The line of a message.
-pub fn message_line(out: &mut [u8], at: usize, l: Line) -> Written
-    ensures answer { result ≡ put_of at (line_text l) out.old }
+pub fn message_line(out: &mut [u8], at: usize, l: Line) -> Result<usize, Reason>
+    ensures answer { written_by result ≡ put_of at (line_text l) out.old }
     ensures buffer { out.new ≡ over at (line_text l) out.old }
 {
-    match l {
-        Line::Nothing => nothing(out, at),
-        Line::Refused(n, place) => refused(out, at, n, place),
-        Line::Lost(server, task) => lost(out, at, server, task),
-    }
+    let text = Text::from(l);
+    put(out, at, text.as_slice())
 }
 
-// A line for each of the first `count` answers (all where there are fewer), whose ticks are numbered from `first` on. How long the lines are is looked at
-// only where they might not fit.
-pub fn ticks(
-    out: &mut [u8],
-    at: usize,
-    first: u32,
-    answers: [Answer; State::BATCH],
-    count: usize,
-) -> Written
-    ensures answer { result ≡ put_of at (answer_lines first count answers) out.old }
-    ensures buffer { out.new ≡ over at (answer_lines first count answers) out.old }
+// A line for each answer, whose ticks are numbered from `first` on.
+pub fn ticks(out: &mut [u8], at: usize, first: u32, answers: &[Answer]) -> Result<usize, Reason>
+    ensures answer { written_by result ≡ put_of at (answer_lines first (length answers.now) answers.now) out.old }
+    ensures buffer { out.new ≡ over at (answer_lines first (length answers.now) answers.now) out.old }
 {
-    let n = small::least(count, State::BATCH);
-    if !fits(out, at, BATCH_ROOM) {
-        if !fits(out, at, batch_size(first, answers, n)) {
-            return Written::refused(Refusal::BUFFER_SHORT);
-        }
+    if !have_room(out, at, first, answers) {
+        return Err(Reason::BufferShort);
     }
+    let mut text = Text::new();
     let mut p = at;
-    let mut i: usize = 0;
-    while i < n {
-        let a = answers[i];
-        let c = a.choice;
-        p = tick(out, p, (first as u64) + (i as u64), c);
-        i = i + 1;
+    for (i, answer) in answers.iter().enumerate() {
+        text.tick(first as u64 + i as u64, answer.choice);
+        p = copy(out, p, text.as_slice());
     }
-    Written::whole(p - at)
+    Ok(p - at)
 }
 
 // `end` and the number of ticks.
-pub fn end(out: &mut [u8], at: usize, n: u32) -> Written
-    ensures answer { result ≡ put_of at (end_line n) out.old }
+#[tactic(auto, using(crate::proofs::Lengths::lengths))]
+pub fn end(out: &mut [u8], at: usize, n: u32) -> Result<usize, Reason>
+    ensures answer { written_by result ≡ put_of at (end_line n) out.old }
     ensures buffer { out.new ≡ over at (end_line n) out.old }
 {
-    let size = 5 + places(n as u64);
-    if !fits(out, at, size) {
-        return Written::refused(Refusal::BUFFER_SHORT);
-    }
-    let p = word(out, at, b"end ");
-    let q = number(out, p, n as u64);
-    put(out, q, b'\n');
-    Written::whole(size)
+    let mut text = Text::new();
+    text.word(b"end ");
+    text.number(n as u64);
+    text.byte(b'\n');
+    put(out, at, text.as_slice())
 }
 
-// THE LINES OF MESSAGES
+// INTO THE LENT BUFFER
 
-fn nothing(out: &mut [u8], at: usize) -> Written
-    ensures answer { result ≡ put_of at (line_text Nothing) out.old }
-    ensures buffer { out.new ≡ over at (line_text Nothing) out.old }
+// The text where it fits, else 32.
+fn put(out: &mut [u8], at: usize, text: &[u8]) -> Result<usize, Reason>
+    ensures answer { written_by result ≡ put_of at text.now out.old }
+    ensures buffer { out.new ≡ over at text.now out.old }
 {
-    if !fits(out, at, 0) {
-        return Written::refused(Refusal::BUFFER_SHORT);
+    if fits(out, at, text.len()) {
+        copy(out, at, text);
+        Ok(text.len())
+    } else {
+        Err(Reason::BufferShort)
     }
-    Written::whole(0)
 }
-
-fn refused(out: &mut [u8], at: usize, n: u8, place: u64) -> Written
-    ensures answer { result ≡ put_of at (line_text (Refused n place)) out.old }
-    ensures buffer { out.new ≡ over at (line_text (Refused n place)) out.old }
-{
-    let size = 12 + mark_size(n) + places(place);
-    if !fits(out, at, size) {
-        return Written::refused(Refusal::BUFFER_SHORT);
-    }
-    let a = word(out, at, b"refused");
-    let b = mark(out, a, n);
-    let c = word(out, b, b" at ");
-    let d = number(out, c, place);
-    put(out, d, b'\n');
-    Written::whole(size)
-}
-
-fn lost(out: &mut [u8], at: usize, server: u8, task: u8) -> Written
-    ensures answer { result ≡ put_of at (line_text (Lost server task)) out.old }
-    ensures buffer { out.new ≡ over at (line_text (Lost server task)) out.old }
-{
-    let size = 5 + mark_size(server) + mark_size(task);
-    if !fits(out, at, size) {
-        return Written::refused(Refusal::BUFFER_SHORT);
-    }
-    let a = word(out, at, b"lost");
-    let b = mark(out, a, server);
-    let c = mark(out, b, task);
-    put(out, c, b'\n');
-    Written::whole(size)
-}
-
-// HOW LONG THEY ARE
 
 fn fits(out: &[u8], at: usize, n: usize) -> bool
     ensures { result ≡ leb (at + n) (length out.now) }
 {
-    if out.len() < n {
-        return false;
-    }
-    at <= out.len() - n
+    at <= out.len() && n <= out.len() - at
 }
 
-fn batch_size(first: u32, answers: [Answer; State::BATCH], n: usize) -> usize
-    requires { n ≤ batch_size }
-    ensures { result ≡ length (answer_lines first n answers) }
+// The text, where there is room for it; the place behind it.
+fn copy(out: &mut [u8], at: usize, text: &[u8]) -> usize
+    requires { at + length text.now ≤ length out.old }
+    ensures answer { result ≡ at + length text.now }
+    ensures buffer { out.new ≡ over at text.now out.old }
 {
-    let mut size: usize = 0;
-    let mut i: usize = 0;
-    while i < n {
-        let a = answers[i];
-        let c = a.choice;
-        size = size + tick_size((first as u64) + (i as u64), c);
-        i = i + 1;
-    }
-    size
-}
-
-fn tick_size(n: u64, c: Choice) -> usize
-    ensures { result ≡ length (tick_line n c) }
-{
-    let p = places(n);
-    match c {
-        Choice::Idle => p + 5,
-        Choice::Burning(server) => p + 3 + mark_size(server),
-        Choice::Running(server, task) => p + 1 + mark_size(server) + mark_size(task),
-    }
-}
-
-fn mark_size(n: u8) -> usize
-    ensures { result ≡ length (mark_text n) }
-{
-    1 + places(n as u64)
-}
-
-// THE LINE OF ONE TICK, where there is room for it: its number, the server and the task
-
-fn tick(out: &mut [u8], at: usize, n: u64, c: Choice) -> usize
-    requires { at + length (tick_line n c) ≤ length out.old }
-    ensures answer { result ≡ at + length (tick_line n c) }
-    ensures buffer { out.new ≡ over at (tick_line n c) out.old }
-{
-    let p = number(out, at, n);
-    match c {
-        Choice::Idle => idle(out, p),
-        Choice::Burning(server) => burning(out, p, server),
-        Choice::Running(server, task) => running(out, p, server, task),
-    }
-}
-
-fn idle(out: &mut [u8], at: usize) -> usize
-    requires { at + 5 ≤ length out.old }
-    ensures answer { result ≡ at + length (choice_text Idle) }
-    ensures buffer { out.new ≡ over at (choice_text Idle) out.old }
-{
-    let a = dash(out, at);
-    let b = dash(out, a);
-    put(out, b, b'\n')
-}
-
-fn burning(out: &mut [u8], at: usize, server: u8) -> usize
-    requires { at + (length (mark_text server) + 3) ≤ length out.old }
-    ensures answer { result ≡ at + length (choice_text (Burning server)) }
-    ensures buffer { out.new ≡ over at (choice_text (Burning server)) out.old }
-{
-    let a = mark(out, at, server);
-    let b = dash(out, a);
-    put(out, b, b'\n')
-}
-
-fn running(out: &mut [u8], at: usize, server: u8, task: u8) -> usize
-    requires { at + (length (mark_text server) + (length (mark_text task) + 1)) ≤ length out.old }
-    ensures answer { result ≡ at + length (choice_text (Running server task)) }
-    ensures buffer { out.new ≡ over at (choice_text (Running server task)) out.old }
-{
-    let a = mark(out, at, server);
-    let b = mark(out, a, task);
-    put(out, b, b'\n')
-}
-
-// PIECES
-
-fn put(out: &mut [u8], at: usize, b: u8) -> usize
-    requires { at < length out.old }
-    ensures answer { result ≡ at + 1 }
-    ensures buffer { out.new ≡ over at (b ∷ []) out.old }
-{
-    out[at] = b;
-    at + 1
-}
-
-fn word(out: &mut [u8], at: usize, s: &[u8]) -> usize
-    requires { at + length s.now ≤ length out.old }
-    ensures answer { result ≡ at + length s.now }
-    ensures buffer { out.new ≡ over at s.now out.old }
-{
-    let mut i: usize = 0;
-    while i < s.len() {
-        out[at + i] = s[i];
-        i = i + 1;
-    }
-    at + i
-}
-
-// A space and a dash.
-fn dash(out: &mut [u8], at: usize) -> usize
-    requires { at + 2 ≤ length out.old }
-    ensures answer { result ≡ at + 2 }
-    ensures buffer { out.new ≡ over at (space ∷ minus ∷ []) out.old }
-{
-    out[at] = b' ';
-    out[at + 1] = b'-';
-    at + 2
-}
-
-// A space and a number of a byte, which is mostly one digit.
-fn mark(out: &mut [u8], at: usize, n: u8) -> usize
-    requires { at + length (mark_text n) ≤ length out.old }
-    ensures answer { result ≡ at + length (mark_text n) }
-    ensures buffer { out.new ≡ over at (mark_text n) out.old }
-{
-    out[at] = b' ';
-    if n <= 9 {
-        out[at + 1] = b'0' + n;
-        return at + 2;
-    }
-    number(out, at + 1, n as u64)
-}
-
-// The decimal digits of n, with no leading zero.
-fn number(out: &mut [u8], at: usize, n: u64) -> usize
-    requires { at + length (decimal n) ≤ length out.old }
-    ensures answer { result ≡ at + length (decimal n) }
-    ensures buffer { out.new ≡ over at (decimal n) out.old }
-{
-    let end = at + places(n);
-    let mut rest = n;
-    let mut i = end;
-    while at < i {
-        i = i - 1;
-        out[i] = b'0' + ((rest % 10) as u8);
-        rest = rest / 10;
-    }
+    let end = at + text.len();
+    out[at..end].copy_from_slice(text);
     end
 }
 
-// How many digits n has.
-fn places(n: u64) -> usize
-    ensures { result ≡ length (decimal n) }
+// Whether the lines of the answers have room in the buffer from the place on: how long they are is looked at only where there might be none.
+fn have_room(out: &[u8], at: usize, first: u32, answers: &[Answer]) -> bool
+    ensures { result ≡ leb (at + length (answer_lines first (length answers.now) answers.now)) (length out.now) }
 {
-    let mut k: usize = 1;
-    let mut least: u64 = 10;
-    while k < MOST_POWER {
-        if n < least {
-            return k;
+    let Some(left) = out.len().checked_sub(at) else {
+        return false;
+    };
+    if answers.len() <= left / ROOM {
+        return true;
+    }
+    let mut text = Text::new();
+    let mut rest = left;
+    for (i, answer) in answers.iter().enumerate() {
+        text.tick(first as u64 + i as u64, answer.choice);
+        let n = text.as_slice().len();
+        if rest < n {
+            return false;
         }
-        k = k + 1;
-        least = least * 10;
+        rest -= n;
     }
-    if n < least {
-        return k;
+    true
+}
+
+// THE TEXT OF A LINE, before it is known whether the line fits: at most as many bytes as a line takes. No heap, so no String; and by hand, not by `write!`,
+// which says what it wrote only where it succeeds, and does not say that it succeeds where there is room.
+
+#[derive(Drop)]
+struct Text {
+    bytes: [u8; ROOM],
+    len: usize,
+}
+
+impl Model for Text {
+    ghost Value = { List ℕ };
+
+    ghost view = { λ t. take t.len t.bytes };
+
+    ghost invariant = { λ t. t.len ≤ room };
+}
+
+#[tactic(auto, using(crate::proofs::Lengths::lengths))]
+impl From<Line> for Text {
+    ghost from_gives = { λ l text. text ≡ line_text l };
+
+    fn from(l: Line) -> Text {
+        let mut text = Text::new();
+        match l {
+            Line::Nothing => {}
+            Line::Refused(n, place) => {
+                text.word(b"refused");
+                text.mark(n);
+                text.word(b" at ");
+                text.number(place);
+                text.byte(b'\n');
+            }
+            Line::Lost(server, task) => {
+                text.word(b"lost");
+                text.mark(server);
+                text.mark(task);
+                text.byte(b'\n');
+            }
+        }
+        text
     }
-    k + 1
+}
+
+#[tactic(auto, using(crate::proofs::Lengths::lengths))]
+impl Text {
+    fn new() -> Text
+        ensures { result ≡ [] }
+    {
+        Text {
+            bytes: [0; ROOM],
+            len: 0,
+        }
+    }
+
+    fn as_slice(&self) -> &[u8]
+        ensures { result.now ≡ self.now }
+    {
+        &self.bytes[..self.len]
+    }
+
+    // The line of one tick, in the place of what was there: its number, the server and the task.
+    fn tick(&mut self, n: u64, c: Choice)
+        ensures { self.new ≡ tick_line n c }
+    {
+        self.len = 0;
+        self.number(n);
+        self.choice(c);
+    }
+
+    fn choice(&mut self, c: Choice)
+        requires { length self.old ≤ 20 }
+        ensures { self.new ≡ self.old ++ choice_text c }
+    {
+        match c {
+            Choice::Idle => self.word(b" - -"),
+            Choice::Burning(server) => {
+                self.mark(server);
+                self.word(b" -");
+            }
+            Choice::Running(server, task) => {
+                self.mark(server);
+                self.mark(task);
+            }
+        }
+        self.byte(b'\n');
+    }
+
+    fn byte(&mut self, b: u8)
+        requires { length self.old < room }
+        ensures { self.new ≡ self.old ++ b ∷ [] }
+    {
+        self.bytes[self.len] = b;
+        self.len += 1;
+    }
+
+    fn word(&mut self, s: &[u8])
+        requires { length self.old + length s.now ≤ room }
+        ensures { self.new ≡ self.old ++ s.now }
+    {
+        let end = self.len + s.len();
+        self.bytes[self.len..end].copy_from_slice(s);
+        self.len = end;
+    }
+
+    // A space and a number of a byte.
+    fn mark(&mut self, n: u8)
+        requires { length self.old + length (mark_text n) ≤ room }
+        ensures { self.new ≡ self.old ++ mark_text n }
+    {
+        self.byte(b' ');
+        self.number(n as u64);
+    }
+
+    // The decimal digits of n, with no leading zero.
+    fn number(&mut self, n: u64)
+        requires { length self.old + length (decimal n) ≤ room }
+        ensures { self.new ≡ self.old ++ decimal n }
+    {
+        if 9 < n {
+            self.number(n / 10);
+        }
+        self.byte(b'0' + (n % 10) as u8);
+    }
 }

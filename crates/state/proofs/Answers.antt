@@ -9,8 +9,7 @@ use Rattle.small.specs.Small.{pick}
 use Rattle.refusal.specs.Refusal.{none, first_of}
 use Rattle.refusal.specs.declared.Refusal.{Refusal}
 use Rattle.table.specs.declared.Table.{Table}
-use Rattle.state.specs.Fresh.{fresh_state, empty_state, fresh_checks, made_with, fresh_of}
-use Rattle.state.specs.declared.Made.{Made}
+use Rattle.state.specs.Fresh.{Made, fresh_state, empty_state, fresh_checks, made_with, fresh_of}
 
 -- of each kind of answer: `next` is what is given where the refusal r is none, and `kept` where it is not
 module _ {A : Type 0} (number : A → ℕ) (r : Refusal) (next kept : A) where

@@ -1,20 +1,29 @@
 -- The first place that passes a test, walked by the index: the first task with pending work, and the highest server that is ready. Assumes nothing.
-use mathlib.Core.Path.{◌≡◌, refl, sym, ◌∙◌}
-use mathlib.Core.Bool.{Bool, true, false, not}
+use mathlib.Core.Path.{◌≡◌, refl, sym, ap, ◌∙◌}
+use mathlib.Core.Bool.{Bool, true, false, not, cond}
 use mathlib.Core.List.{List, [], ◌∷◌}
 use mathlib.Core.Logic.{◌↔◌}
 use Prim.Native.Nat.compare
 use Prim.Native.Nat.{ℕ, zero, suc, ◌+◌, ◌≤◌, ◌<◌}
 use native.Mathlib.Omega.{arith}
-use lib.Dec.{leb, ltb}
+use lib.Dec.{leb, ltb, eqb}
 use lib.ListN.{length, get_or, drop, drop_of_length-le}
 use borrow.Author.Tests.{lt-ltb, ltb-true, ltb-false, le-leb, lt-leb}
-use Rattle.small.specs.Small.{pick}
+use Rattle.small.specs.Small.{pick, both}
 use Rattle.small.proofs.Tests.{neither_left, neither_right}
 use Rattle.small.proofs.Lists.{drop_step}
+use Rattle.refusal.specs.declared.Reason.{Reason}
+use Rattle.refusal.specs.declared.Reason.TheVariants.{ServerKind}
+use Rattle.table.specs.Kind.{idling_kind, deferrable_kind, polling_kind}
+use Rattle.table.specs.Kinds.{kind_of}
+use Rattle.table.specs.declared.Kind.{Kind}
+use Rattle.table.specs.declared.Kind.TheVariants.{Idling, Deferrable, Polling}
 use Rattle.table.specs.declared.Server.{Server}
 use Rattle.state.specs.State.{zero_load}
-use Rattle.state.specs.Choice.{pendingb, first_pending, some_pending, readyb, chosen_from}
+use Rattle.std.specs.Prelude.{Some, None, is_some, Result, Ok, Err}
+use Rattle.std.specs.List.{position_or_len, zip}
+use Rattle.table.specs.Limits.{entries}
+use Rattle.state.specs.Choice.{place_in, pendingb, first_pending, some_pending, wantsb, readyb, chosen_from}
 use Rattle.state.specs.declared.Load.{Load}
 use Rattle.state.specs.declared.Entry.{Entry}
 
@@ -105,3 +114,64 @@ chosen_search ss es same d e =
       step = λ i h. let k : i < length es = omega arith in rw (drop_step ss i d h, drop_step es i e k);
       stop = λ i h. rw (drop_of_length-le ss h);
     }
+
+-- AS A PLACE
+
+pick_cond : {A : Type 0} (b : Bool) (x y : A) → pick b x y ≡ cond b x y
+pick_cond true x y = refl
+pick_cond false x y = refl
+
+position_more : {A : Type 0} (p : A → Bool) (x : A) (xs : List A) → position_or_len p (x ∷ xs) ≡ pick (p x) 0 (suc (position_or_len p xs))
+position_more p x xs = go (p x)
+  where
+    go : (b : Bool) → cond (not b) (1 + position_or_len p xs) 0 ≡ pick b 0 (suc (position_or_len p xs))
+    go true = refl
+    go false = omega arith
+
+first_position : (ls : List Load) → first_pending ls ≡ position_or_len pendingb ls
+first_position [] = refl
+first_position (l ∷ ls) = ap (λ k. pick (pendingb l) 0 (suc k)) (first_position ls) ∙ sym (position_more pendingb l ls)
+
+pub first_placed : (ls : List Load) → length ls ≡ entries → cond (ltb (position_or_len pendingb ls) (length ls)) (Some (position_or_len pendingb ls)) None ≡ place_in (first_pending ls)
+first_placed ls full = rw (full, first_position ls) (sym (pick_cond (ltb (position_or_len pendingb ls) entries) _ _))
+
+pub some_placed : (ls : List Load) → length ls ≡ entries → is_some (place_in (first_pending ls)) ≡ some_pending ls
+some_placed ls full = go (ltb (first_pending ls) entries) ∙ sym (rw full at (some_first ls))
+  where
+    go : (b : Bool) → is_some (pick b (Some (first_pending ls)) None) ≡ b
+    go true = refl
+    go false = refl
+
+-- THE HIGHEST SERVER AS A PLACE
+
+-- a server and its entry
+abbrev pub pair_ready : Server × Entry → Bool
+pair_ready p = readyb p.0.kind p.1
+
+chosen_position : (ss : List Server) (es : List Entry) → chosen_from ss es ≡ position_or_len pair_ready (zip ss es)
+chosen_position [] es = refl
+chosen_position (s ∷ ss) [] = refl
+chosen_position (s ∷ ss) (e ∷ es) =
+    ap (λ k. pick (readyb s.kind e) 0 (suc k)) (chosen_position ss es) ∙ sym (position_more pair_ready (s, e) (zip ss es))
+
+pub chosen_placed : (ss : List Server) (es : List Entry) → length (zip ss es) ≡ entries
+    → cond (ltb (position_or_len pair_ready (zip ss es)) (length (zip ss es))) (Some (position_or_len pair_ready (zip ss es))) None ≡ place_in (chosen_from ss es)
+chosen_placed ss es full = rw (full, chosen_position ss es) (sym (pick_cond (ltb (position_or_len pair_ready (zip ss es)) entries) _ _))
+
+-- WHO WANTS A TICK, BY THE KIND THAT A NUMBER IS
+
+abbrev wants_as : Result Kind Reason → Bool → Bool
+wants_as (Ok Idling) b = true
+wants_as (Ok Deferrable) b = b
+wants_as (Ok Polling) b = b
+wants_as (Err r) b = false
+
+pub wants_kind : (k : ℕ) (e : Entry) → wantsb k e ≡ wants_as (kind_of k) (some_pending e.loads)
+unfolding wantsb
+wants_kind k e = go (eqb k idling_kind) (eqb k deferrable_kind) (eqb k polling_kind)
+  where
+    go : (a b c : Bool) → pick a true (both (pick b true c) (some_pending e.loads)) ≡ wants_as (pick a (Ok Idling) (pick b (Ok Deferrable) (pick c (Ok Polling) (Err ServerKind)))) (some_pending e.loads)
+    go true b c = refl
+    go false true c = refl
+    go false false true = refl
+    go false false false = refl

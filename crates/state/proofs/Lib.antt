@@ -17,3 +17,5 @@ pub mod FreshSound
 pub mod FirstReady
 pub mod FreshSizes
 pub mod Freshly
+pub mod Places
+pub mod Walks

@@ -10,8 +10,7 @@ use Rattle.queue.specs.Limits.{longest}
 use Rattle.table.specs.Limits.{most_work}
 use Rattle.table.specs.Sound.{tableb}
 use Rattle.table.specs.declared.Table.{Table}
-use Rattle.state.specs.Fresh.{fresh_checks, fresh_of}
-use Rattle.state.specs.declared.Made.{Made}
+use Rattle.state.specs.Fresh.{Made, fresh_checks, fresh_of}
 use Rattle.state.proofs.Answers.{given_number, given_place}
 
 module _ (t : Table) where

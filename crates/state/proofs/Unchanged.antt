@@ -9,8 +9,7 @@ use Rattle.queue.specs.Row.{queue_of}
 use Rattle.table.specs.Limits.{entries}
 use Rattle.table.specs.declared.Table.{Table}
 use Rattle.state.specs.State.{zero_entry}
-use Rattle.state.specs.Fresh.{fresh_state, empty_state, fresh_checks, made_with, fresh_of}
-use Rattle.state.specs.declared.Made.{Made}
+use Rattle.state.specs.Fresh.{Made, fresh_state, empty_state, fresh_checks, made_with, fresh_of}
 use Rattle.state.proofs.Answers.{given_kept}
 
 module _ (t : Table) where

@@ -1,5 +1,5 @@
 -- Steps 1 and 2 of a tick: who wants it, who is chosen.
-use Rattle.std.specs.Prelude.{Bool, true, false, List, [], ◌∷◌, ℕ, suc, ltb, eqb}
+use Rattle.std.specs.Prelude.{Bool, true, false, List, [], ◌∷◌, ℕ, suc, ltb, eqb, Option, Some, None}
 use Rattle.small.specs.Small.{pick, both}
 use Rattle.table.specs.Kind.{idling_kind, deferrable_kind, polling_kind}
 use Rattle.table.specs.Limits.{entries}
@@ -10,6 +10,10 @@ use Rattle.state.specs.declared.Entry.{Entry}
 use Rattle.state.specs.declared.State.{State}
 use Rattle.state.specs.declared.Choice.{Choice}
 use Rattle.state.specs.declared.Choice.TheVariants.{Idle, Burning, Running}
+
+-- a place of the table, where the number is one
+abbrev pub place_in : ℕ → Option ℕ
+place_in k = pick (ltb k entries) (Some k) None
 
 abbrev pub pendingb : Load → Bool
 pendingb l = ltb 0 l.pending.0

@@ -1,10 +1,12 @@
 -- "Fresh state: each budget is C; each replenishment is P away. A periodic task with O = 0 has work E and its next arrival T away; with O > 0, work 0 and
 -- its arrival O away. Server and task events go in by table order."
-use Rattle.std.specs.Prelude.{not, List, [], ◌∷◌, ℕ, suc, eqb, replicate}
+use Rattle.std.specs.Prelude.{not, Result, Ok, Err, List, [], ◌∷◌, ℕ, suc, eqb, replicate}
 use Rattle.small.specs.Small.{pick}
 use Rattle.refusal.specs.Numbers.{unsound}
 use Rattle.refusal.specs.Refusal.{none, Check, check, first_of}
+use Rattle.refusal.specs.Reason.{refusal_by}
 use Rattle.refusal.specs.declared.Refusal.{Refusal}
+use Rattle.refusal.specs.declared.Reason.{Reason}
 use Rattle.queue.specs.Limits.{max_gap, longest}
 use Rattle.queue.specs.Row.{queue_of}
 use Rattle.queue.specs.Calls.{insert_of}
@@ -21,7 +23,6 @@ use Rattle.state.specs.Polling.{lapsed}
 use Rattle.state.specs.declared.Load.{Load}
 use Rattle.state.specs.declared.Entry.{Entry}
 use Rattle.state.specs.declared.State.{State}
-use Rattle.state.specs.declared.Made.{Made}
 
 -- how far a task's first arrival is away; 0 where it has none
 abbrev pub first_away : Release → ℕ
@@ -70,6 +71,11 @@ fresh_entries (s ∷ ss) = fresh_entry s ∷ fresh_entries ss
 unfoldable pub fresh_state : Table → State
 fresh_state t = record { entries = fresh_entries t.servers; table = t; refills = fresh_queue server_away t.servers }
 
+-- what the call answers: a state, and why it is refused
+pub record Made : Type 0 where
+  pub state : State
+  pub refusal : Refusal
+
 -- a refused call hands back the table as it was, and zero elsewhere
 abbrev pub empty_state : Table → State
 empty_state t = record { entries = replicate entries zero_entry; table = t; refills = queue_of [] }
@@ -84,3 +90,8 @@ unfoldable pub fresh_of : Table → Made
 fresh_of t =
     let r = first_of (fresh_checks t) in
     pick (eqb r.number 0) (made_with none (fresh_state t)) (made_with r (empty_state t))
+
+-- what the outcome of a call on a table is as an answer
+abbrev pub made_by : Table → Result State Reason → Made
+made_by t (Ok s) = made_with none s
+made_by t (Err r) = made_with (refusal_by r) (empty_state t)

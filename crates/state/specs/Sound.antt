@@ -22,6 +22,12 @@ abbrev pub release_reach : Release → ℕ
 release_reach OnArrival = 0
 release_reach (Periodic T O) = pick (leb T.0 O.0) O.0 T.0
 
+abbrev pub task_reach : Task → ℕ
+task_reach t = release_reach t.release
+
+abbrev pub server_reach : Server → ℕ
+server_reach s = s.period.0
+
 -- "an arrival 1 to the larger of T and O" away
 abbrev pub task_reaches : List Task → List ℕ
 task_reaches [] = []

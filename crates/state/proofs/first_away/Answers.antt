@@ -1,7 +1,0 @@
--- `state::first_away` meets its contract: the match tells the case of the release, and a periodic one's offset is tested as in the definition.
-use borrow.Author.Tests.{ne_eqb}
-use Rattle.state.proofs.first_away.Goals as goal
-
-pub returns-else-offset-eq0 : goal.returns-else-offset-eq0
-returns-else-offset-eq0 c =
-    simp (c.in-Periodic.is, ne_eqb _ _ c.if-offset-eq0.false)

@@ -1,4 +1,5 @@
--- The first place that passes a test, walked by the index: the first task with pending work, and the highest server that is ready. Assumes nothing.
+-- The first place that passes a test, as a number and as what `position` gives: the first task with pending work, and the highest server that is ready.
+-- Assumes nothing.
 use mathlib.Core.Path.{◌≡◌, refl, sym, ap, ◌∙◌}
 use mathlib.Core.Bool.{Bool, true, false, not, cond}
 use mathlib.Core.List.{List, [], ◌∷◌}
@@ -6,43 +7,23 @@ use mathlib.Core.Logic.{◌↔◌}
 use Prim.Native.Nat.compare
 use Prim.Native.Nat.{ℕ, zero, suc, ◌+◌, ◌≤◌, ◌<◌}
 use native.Mathlib.Omega.{arith}
-use lib.Dec.{leb, ltb, eqb}
-use lib.ListN.{length, get_or, drop, drop_of_length-le}
-use borrow.Author.Tests.{lt-ltb, ltb-true, ltb-false, le-leb, lt-leb}
+use lib.Dec.{ltb, eqb}
+use lib.ListN.{length, get_or}
+use borrow.Author.Tests.{lt-ltb}
 use Rattle.small.specs.Small.{pick, both}
 use Rattle.small.proofs.Tests.{neither_left, neither_right}
-use Rattle.small.proofs.Lists.{drop_step}
-use Rattle.refusal.specs.declared.Reason.{Reason}
-use Rattle.refusal.specs.declared.Reason.TheVariants.{ServerKind}
 use Rattle.table.specs.Kind.{idling_kind, deferrable_kind, polling_kind}
-use Rattle.table.specs.Kinds.{kind_of}
+use Rattle.table.specs.Kinds.{known_kind}
 use Rattle.table.specs.declared.Kind.{Kind}
 use Rattle.table.specs.declared.Kind.TheVariants.{Idling, Deferrable, Polling}
 use Rattle.table.specs.declared.Server.{Server}
 use Rattle.state.specs.State.{zero_load}
-use Rattle.std.specs.Prelude.{Some, None, is_some, Result, Ok, Err}
+use Rattle.std.specs.Prelude.{Option, Some, None, is_some}
 use Rattle.std.specs.List.{position_or_len, zip}
 use Rattle.table.specs.Limits.{entries}
 use Rattle.state.specs.Choice.{place_in, pendingb, first_pending, some_pending, wantsb, readyb, chosen_from}
 use Rattle.state.specs.declared.Load.{Load}
 use Rattle.state.specs.declared.Entry.{Entry}
-
--- a search among n places: `left i` is how far on from i the first place is that `hit` holds of; past the last it is 0
-pub record Search (n : ℕ) (hit : ℕ → Bool) (left : ℕ → ℕ) : Type 0 where
-  pub step : (i : ℕ) → i < n → left i ≡ pick (hit i) 0 (suc (left (i + 1)))
-  pub stop : (i : ℕ) → n ≤ i → left i ≡ 0
-
-module _ {n : ℕ} {hit : ℕ → Bool} {left : ℕ → ℕ} (s : Search n hit left) where
-  -- a loop that has passed every place before i: the one at i is it, it is not, or there is none
-  module _ (i : ℕ) {k : ℕ} (is : k ≡ i + left i) where
-    pub search_here : i < n → hit i ≡ true → i ≡ k
-    search_here h e = let z : left i ≡ 0 = s.step i h ∙ simp e in omega arith
-
-    pub search_next : i < n → hit i ≡ false → k ≡ i + 1 + left (i + 1)
-    search_next h e = let z : left i ≡ suc (left (i + 1)) = s.step i h ∙ simp e in omega arith
-
-    pub search_end : n ≤ i → i ≡ k
-    search_end h = omega (arith, s.stop i h)
 
 -- k is the first of n places that passes the test, or n where there is none
 pub record FirstOf (p : ℕ → Bool) (n k : ℕ) : Type 0 where
@@ -66,9 +47,6 @@ pub first_pending_lem : (ls : List Load) (d : Load) → FirstOf (λ (j : ℕ). p
 first_pending_lem [] d = record { below = omega arith; here = λ h. absurd (omega arith); above = λ i h. absurd (omega arith) }
 first_pending_lem (l ∷ ls) d = first_more (λ (j : ℕ). pendingb (get_or (l ∷ ls) j d)) (length ls) (first_pending ls) (pendingb l) refl (first_pending_lem ls d)
 
-pub pending_search : (ls : List Load) (d : Load) → Search (length ls) (λ (j : ℕ). pendingb (get_or ls j d)) (λ (j : ℕ). first_pending (drop j ls))
-pending_search ls d = record { step = λ j h. rw (drop_step ls j d); stop = λ j h. rw (drop_of_length-le ls h) }
-
 -- work is pending in some task exactly when there is a first
 pub some_first : (ls : List Load) → some_pending ls ≡ ltb (first_pending ls) (length ls)
 some_first [] = refl
@@ -77,13 +55,6 @@ some_first (l ∷ ls) = go (pendingb l) (some_first ls)
     go : (b : Bool) → some_pending ls ≡ ltb (first_pending ls) (length ls) → pick b true (some_pending ls) ≡ ltb (pick b 0 (suc (first_pending ls))) (suc (length ls))
     go true r = sym (lt-ltb 0 (suc (length ls)) (omega arith))
     go false r = rw compare.suc-suc r
-
-pub none_first : (ls : List Load) → not (some_pending ls) ≡ leb (length ls) (first_pending ls)
-none_first ls = go (ltb (first_pending ls) (length ls)) refl
-  where
-    go : (b : Bool) → ltb (first_pending ls) (length ls) ≡ b → not (some_pending ls) ≡ leb (length ls) (first_pending ls)
-    go true p = rw (some_first ls, p) (sym (lt-leb (length ls) (first_pending ls) (ltb-true (first_pending ls) (length ls) p)))
-    go false p = rw (some_first ls, p) (sym (le-leb (length ls) (first_pending ls) (ltb-false (first_pending ls) (length ls) p)))
 
 -- and in none exactly when each has none
 pub some_none : (ls : List Load) → some_pending ls ≡ false ↔ ((j : ℕ) → pendingb (get_or ls j zero_load) ≡ false)
@@ -106,14 +77,6 @@ first_ready [] es h d e = record { below = omega arith; here = λ l. absurd (ome
 first_ready (s ∷ ss) [] h d e = absurd (omega arith)
 first_ready (s ∷ ss) (x ∷ es) h d e =
     first_more (λ (i : ℕ). readyb (get_or (s ∷ ss) i d).kind (get_or (x ∷ es) i e)) (length ss) (chosen_from ss es) (readyb s.kind x) refl (first_ready ss es (omega arith) d e)
-
-pub chosen_search : (ss : List Server) (es : List Entry) → length ss ≡ length es → (d : Server) (e : Entry)
-    → Search (length ss) (λ (i : ℕ). readyb (get_or ss i d).kind (get_or es i e)) (λ (i : ℕ). chosen_from (drop i ss) (drop i es))
-chosen_search ss es same d e =
-    record {
-      step = λ i h. let k : i < length es = omega arith in rw (drop_step ss i d h, drop_step es i e k);
-      stop = λ i h. rw (drop_of_length-le ss h);
-    }
 
 -- AS A PLACE
 
@@ -158,19 +121,19 @@ pub chosen_placed : (ss : List Server) (es : List Entry) → length (zip ss es) 
     → cond (ltb (position_or_len pair_ready (zip ss es)) (length (zip ss es))) (Some (position_or_len pair_ready (zip ss es))) None ≡ place_in (chosen_from ss es)
 chosen_placed ss es full = rw (full, chosen_position ss es) (sym (pick_cond (ltb (position_or_len pair_ready (zip ss es)) entries) _ _))
 
--- WHO WANTS A TICK, BY THE KIND THAT A NUMBER IS
+-- THE TESTS OF A KIND, BY THE KIND THAT A NUMBER IS
 
-abbrev wants_as : Result Kind Reason → Bool → Bool
-wants_as (Ok Idling) b = true
-wants_as (Ok Deferrable) b = b
-wants_as (Ok Polling) b = b
-wants_as (Err r) b = false
+abbrev wants_as : Option Kind → Bool → Bool
+wants_as (Some Idling) b = true
+wants_as (Some Deferrable) b = b
+wants_as (Some Polling) b = b
+wants_as None b = false
 
-pub wants_kind : (k : ℕ) (e : Entry) → wantsb k e ≡ wants_as (kind_of k) (some_pending e.loads)
+pub wants_kind : (k : ℕ) (e : Entry) → wantsb k e ≡ wants_as (known_kind k) (some_pending e.loads)
 unfolding wantsb
 wants_kind k e = go (eqb k idling_kind) (eqb k deferrable_kind) (eqb k polling_kind)
   where
-    go : (a b c : Bool) → pick a true (both (pick b true c) (some_pending e.loads)) ≡ wants_as (pick a (Ok Idling) (pick b (Ok Deferrable) (pick c (Ok Polling) (Err ServerKind)))) (some_pending e.loads)
+    go : (a b c : Bool) → pick a true (both (pick b true c) (some_pending e.loads)) ≡ wants_as (pick a (Some Idling) (pick b (Some Deferrable) (pick c (Some Polling) None))) (some_pending e.loads)
     go true b c = refl
     go false true c = refl
     go false false true = refl

@@ -1,10 +1,10 @@
 -- A budget that is given up: what `lapsed` leaves of an entry. Assumes nothing.
 use mathlib.Core.Path.{◌≡◌, refl, sym, ap, ◌∙◌}
-use mathlib.Core.Bool.{Bool, true, false, not}
+use mathlib.Core.Bool.{Bool, true, false}
 use native.Mathlib.Omega.{arith}
 use lib.Dec.{ltb, eqb}
-use borrow.Author.Tests.{eq-eqb, ne_eqb, ltb-true, ltb-false}
-use Rattle.small.specs.Small.{pick, both}
+use borrow.Author.Tests.{eq-eqb, ltb-false}
+use Rattle.small.specs.Small.{pick}
 use Rattle.small.proofs.Tests.{both_left}
 use Rattle.table.specs.declared.Server.{Server}
 use Rattle.state.specs.State.{with_budget}
@@ -68,12 +68,3 @@ module _ (s : Server) (e : Entry) where
   pub lapsed_given : gives_upb s.kind e ≡ true → lapsed s e ≡ with_budget 0 e
   unfolding lapsed
   lapsed_given h = rw (both_left (lapsesb s.kind e) _ h)
-
-  -- the test of an entry is that there is nothing to give up
-  pub gives_none : spentb s e ≡ not (gives_upb s.kind e)
-  gives_none = go (lapsesb s.kind e) (ltb 0 e.budget.0) refl
-    where
-      go : (a b : Bool) → ltb 0 e.budget.0 ≡ b → pick a (eqb e.budget.0 0) true ≡ not (both a b)
-      go true true p = ne_eqb e.budget.0 0 (λ z. omega (arith, ltb-true 0 e.budget.0 p))
-      go true false p = eq-eqb e.budget.0 0 (omega (arith, ltb-false 0 e.budget.0 p))
-      go false b p = refl

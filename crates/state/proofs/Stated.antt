@@ -3,15 +3,14 @@ use mathlib.Core.Path.{◌≡◌, refl, ◌∙◌}
 use mathlib.Core.Bool.{Bool, true, false}
 use mathlib.Core.List.{List, [], ◌∷◌}
 use mathlib.Core.Logic.{◌↔◌}
-use Prim.Native.Nat.{ℕ, zero, suc, ◌+◌, ◌≤◌, ◌<◌}
+use Prim.Native.Nat.{ℕ, zero, suc, ◌≤◌, ◌<◌}
 use native.Mathlib.Omega.{arith}
 use lib.Dec.{leb, ltb, eqb}
-use lib.ListN.{length, get_or, drop, drop_of_length-le}
+use lib.ListN.{length, get_or}
 use borrow.Author.Tests.{leb-true, ltb-true, ltb-false, eqb-true, le-leb}
 use Rattle.small.specs.Small.{pick, both, alter, usedb}
 use Rattle.small.proofs.Tests.{both_left, both_right}
 use Rattle.small.proofs.Used.{used_none, each_from}
-use Rattle.small.proofs.Lists.{drop_step}
 use Rattle.queue.specs.Limits.{max_gap, longest}
 use Rattle.queue.specs.Row.{Event, events_of}
 use Rattle.queue.specs.Sound.{soundb}
@@ -223,20 +222,6 @@ module _ (p : Server → Entry → Bool) where
   paired_one f (s ∷ ss) [] i k h = refl
   paired_one f (s ∷ ss) (e ∷ es) zero k h = rw (k e (both_left _ _ h)) (both_right (p s e) _ h)
   paired_one f (s ∷ ss) (e ∷ es) (suc i) k h = rw (both_left (p s e) _ h) (paired_one f ss es i k (both_right (p s e) _ h))
-
-  -- walked by the index: a loop that has passed every entry before i; d and z are what a place past the end would hold
-  module _ (ss : List Server) (es : List Entry) (same : length ss ≡ length es) (i : ℕ) (d : Server) (z : Entry) {b : Bool} (is : b ≡ eachb p (drop i ss) (drop i es)) where
-    paired_step : i < length ss → b ≡ both (p (get_or ss i d) (get_or es i z)) (eachb p (drop (i + 1) ss) (drop (i + 1) es))
-    paired_step h = let k : i < length es = omega arith in is ∙ rw (drop_step ss i d h, drop_step es i z k)
-
-    pub paired_stop : i < length ss → p (get_or ss i d) (get_or es i z) ≡ false → b ≡ false
-    paired_stop h e = paired_step h ∙ rw e
-
-    pub paired_go : i < length ss → p (get_or ss i d) (get_or es i z) ≡ true → b ≡ eachb p (drop (i + 1) ss) (drop (i + 1) es)
-    paired_go h e = paired_step h ∙ rw e
-
-    pub paired_end : length ss ≤ i → b ≡ true
-    paired_end h = is ∙ rw (drop_of_length-le ss h)
 
 pub stated : (s : State) → Eight s → stateb s ≡ true ↔ Stated s
 unfolding stateb

@@ -98,7 +98,7 @@ impl State {
             .servers
             .iter()
             .zip(&self.entries)
-            .all(|(s, e)| !e.gives_up(s.kind))
+            .all(|(s, e)| !e.gives_up(s))
     }
 }
 
@@ -112,7 +112,7 @@ pub fn chosen(table: &Table, entries: &[Entry; Table::ENTRIES]) -> Option<usize>
         .servers
         .iter()
         .zip(entries)
-        .position(|(s, e)| e.is_ready(s.kind))
+        .position(|(s, e)| e.is_ready(s))
 }
 
 impl Load {
@@ -156,7 +156,7 @@ impl Entry {
             arrivals: first_events(&server.tasks),
             budget: server.budget,
         };
-        if entry.gives_up(server.kind) {
+        if entry.gives_up(server) {
             entry.give_up();
         }
         entry
@@ -185,30 +185,31 @@ impl Entry {
         self.first_pending().is_some()
     }
 
-    /// Whether a server of this kind wants a tick.
+    /// Whether the server wants a tick.
     #[tactic(auto, using(crate::proofs::Choosing::wants_kind))]
-    fn wants(&self, kind: u8) -> bool
-        ensures { result ≡ wantsb kind self.now }
+    fn wants(&self, server: &Server) -> bool
+        ensures { result ≡ wantsb server.now.kind self.now }
     {
-        match Kind::try_from(kind) {
-            Ok(Kind::Idling) => true,
-            Ok(Kind::Deferrable | Kind::Polling) => self.has_work(),
-            Err(_) => false,
+        match server.known_kind() {
+            Some(Kind::Idling) => true,
+            Some(Kind::Deferrable | Kind::Polling) => self.has_work(),
+            None => false,
         }
     }
 
     /// Whether it wants a tick and has budget.
-    fn is_ready(&self, kind: u8) -> bool
-        ensures { result ≡ readyb kind self.now }
+    fn is_ready(&self, server: &Server) -> bool
+        ensures { result ≡ readyb server.now.kind self.now }
     {
-        0 < self.budget.0 && self.wants(kind)
+        0 < self.budget.0 && self.wants(server)
     }
 
-    /// Whether a server of this kind has budget to give up: it is polling, and no work is pending.
-    pub fn gives_up(&self, kind: u8) -> bool
-        ensures { result ≡ gives_upb kind self.now }
+    /// Whether the server has budget to give up: it is polling, and no work is pending.
+
+    pub fn gives_up(&self, server: &Server) -> bool
+        ensures { result ≡ gives_upb server.now.kind self.now }
     {
-        0 < self.budget.0 && kind == Kind::Polling.number() && !self.has_work()
+        0 < self.budget.0 && server.known_kind() == Some(Kind::Polling) && !self.has_work()
     }
 
     pub fn give_up(&mut self)

@@ -16,7 +16,7 @@ use std::array;
 use table::{Kind, Part, Served, Server, Table, Task};
 
 /// A task's pending work and its lost count.
-#[derive(Clone, Copy, Default)]
+#[derive(Clone, Copy, Default, PartialEq, Eq)]
 pub struct Load {
     pub pending: Served,
     pub lost: u16,
@@ -143,7 +143,7 @@ impl Part for Load {
     }
 
     fn is_zero(&self) -> bool {
-        self.pending.0 == 0 && self.lost == 0
+        *self == Load::default()
     }
 }
 
@@ -166,7 +166,7 @@ impl Entry {
     fn is_sound(&self, server: &Server) -> bool
         ensures { result ≡ entryb server.now self.now }
     {
-        self.budget.0 <= server.budget.0
+        self.budget <= server.budget
             && table::in_use(&self.loads, server.count)
             && self.arrivals.holds(&reaches(&server.tasks))
     }

@@ -1,7 +1,11 @@
 -- ONE OUTCOME: any two outcomes that a public function's contract allows are equal. Stated over the contracts themselves: `f.Post κs a r e` is what the
 -- contract of `f` says of the arguments a, the result r and the parameters e as they are at exit. Assumes nothing.
 use Rattle.small.proofs.Outcome.{One, same}
+use mir.Syntax.{Dict}
+use denote.RattleType.{RattleType}
+use denote.Param.Laws.{Laws}
 use Rattle.table.specs.Table.{ticks}
+use Rattle.table.specs.declared.Part.{Ghosts}
 use Rattle.table.proofs.Table.is_sound.Reads as table-is_sound
 use Rattle.table.proofs.Server.known_kind.Reads as known-kind
 use Rattle.table.proofs.Kind.number.Reads as kind-number
@@ -12,6 +16,7 @@ use Rattle.table.proofs.Release.offset.Reads as offset-of
 use Rattle.table.proofs.Table.zero.Reads as zero-table
 use Rattle.table.proofs.Server.zero.Reads as zero_server_lem
 use Rattle.table.proofs.Task.zero.Reads as zero_task_lem
+use Rattle.table.proofs.in_use.Reads as in-use
 use Rattle.table.proofs.KindTryFromU8.try_from.Reads as kind-try_from
 use Rattle.table.proofs.ServerPart.is_sound.Reads as server-is_sound
 use Rattle.table.proofs.TaskPart.is_sound.Reads as task-is_sound
@@ -62,3 +67,7 @@ zero_server_one κs a x y e f p q = same p q
 
 pub zero_task_one : One zero_task_lem.Post (λ κs x e. x)
 zero_task_one κs a x y e f p q = same p q
+
+-- over any type of entries T
+pub in_use_one : (T : RattleType) (laws : Laws T) (part : Ghosts T.Denot) (dict : Dict) → One (in-use.Post T laws part dict) (λ κs x e. x)
+in_use_one T laws part dict κs a x y e f p q = same p q

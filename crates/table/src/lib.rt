@@ -49,8 +49,9 @@ impl TryFrom<u8> for Kind {
 }
 
 /// A task's release: on arrival, or periodic with its period T and its offset O.
-#[derive(Clone, Copy)]
+#[derive(Clone, Copy, Default)]
 pub enum Release {
+    #[default]
     OnArrival,
     Periodic { period: Distance, offset: Distance },
 }
@@ -102,7 +103,7 @@ impl Release {
     }
 }
 
-#[derive(Clone, Copy)]
+#[derive(Clone, Copy, Default)]
 pub struct Task {
     pub work: Served,
     pub release: Release,
@@ -220,10 +221,7 @@ impl Task {
     pub fn zero() -> Task
         ensures { result ≡ zero_task }
     {
-        Task {
-            work: Served(0),
-            release: Release::OnArrival,
-        }
+        Task::default()
     }
 }
 

@@ -7,6 +7,7 @@ use lib.Dec.{eqb}
 use borrow.Author.Tests.{eqb-true, eqb-false}
 use Rattle.small.specs.Small.{pick}
 use Rattle.refusal.specs.Refusal.{none, first_of}
+use Rattle.refusal.proofs.Decided.{Decided, decided}
 use Rattle.refusal.specs.declared.Refusal.{Refusal}
 use Rattle.table.specs.declared.Table.{Table}
 use Rattle.state.specs.Fresh.{Made, fresh_state, empty_state, fresh_checks, made_with, fresh_of}
@@ -49,8 +50,9 @@ module _ {A : Type 0} (refusal : A → Refusal) (r : Refusal) (next kept : A) (a
 -- FRESH STATE
 
 module _ (t : Table) where
-  pub fresh_done : (fresh_of t).refusal.number ≡ 0 → fresh_of t ≡ made_with none (fresh_state t)
+  pub fresh_decided : Decided (λ (m : Made). m.refusal) (first_of (fresh_checks t)) (made_with none (fresh_state t)) (made_with (first_of (fresh_checks t)) (empty_state t)) (fresh_of t)
   unfolding fresh_of
-  fresh_done h =
-      let r = first_of (fresh_checks t) in
-      given_next (λ (m : Made). m.refusal.number) r (made_with none (fresh_state t)) (made_with r (empty_state t)) refl h
+  fresh_decided = decided (λ (m : Made). m.refusal) (first_of (fresh_checks t)) _ _ (fresh_of t) refl refl refl
+
+  pub fresh_done : (fresh_of t).refusal.number ≡ 0 → fresh_of t ≡ made_with none (fresh_state t)
+  fresh_done h = (fresh_decided.passed h).1

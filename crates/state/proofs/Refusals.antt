@@ -10,13 +10,12 @@ use Rattle.queue.specs.Limits.{longest}
 use Rattle.table.specs.Limits.{most_work}
 use Rattle.table.specs.Sound.{tableb}
 use Rattle.table.specs.declared.Table.{Table}
-use Rattle.state.specs.Fresh.{Made, fresh_checks, fresh_of}
-use Rattle.state.proofs.Answers.{given_number, given_place}
+use Rattle.state.specs.Fresh.{fresh_checks, fresh_of}
+use Rattle.state.proofs.Answers.{fresh_decided}
 
 module _ (t : Table) where
   fresh_number : (fresh_of t).refusal.number ≡ (first_of (fresh_checks t)).number
-  unfolding fresh_of
-  fresh_number = given_number (λ (m : Made). m.refusal) (first_of (fresh_checks t)) _ _ refl refl
+  fresh_number = (fresh_decided t).number
 
   -- "queue, state or table handed in isn't sound"
   pub fresh_31 : (fresh_of t).refusal.number ≡ unsound ↔ (tableb longest most_work t ≡ false)
@@ -28,5 +27,4 @@ module _ (t : Table) where
 
   -- "the place (0 where none is named below)"
   pub fresh_place : (fresh_of t).refusal.place ≡ 0
-  unfolding fresh_of
-  fresh_place = given_place (λ (m : Made). m.refusal) (first_of (fresh_checks t)) _ _ refl refl (no_place (fresh_checks t) refl)
+  fresh_place = (fresh_decided t).place (no_place (fresh_checks t) refl)

@@ -15,6 +15,9 @@ use Rattle.small.proofs.All.{all_take, all_at}
 use Rattle.small.proofs.Padded.{padded_take, padded_length, padded_used, padded_unused}
 use Rattle.refusal.specs.Numbers.{bytes_left}
 use Rattle.refusal.specs.Refusal.{none, Check, check_at, first_of, Passed}
+use Rattle.std.specs.Prelude.{Result, Ok, Err}
+use Rattle.refusal.specs.declared.Fault.{Fault}
+use Rattle.refusal.proofs.Reasons.{fault_one}
 use Rattle.refusal.proofs.Decided.{Decided, decided}
 use Rattle.refusal.proofs.Exactly.{passes}
 use Rattle.refusal.proofs.Joined.{passed_join, passed_parts, passed_none, Ranged, ranged_join, ranged_wider, ranged_numbered}
@@ -28,11 +31,11 @@ use Rattle.table.specs.Meaning.{SoundTable, Sized}
 use Rattle.table.specs.declared.Server.{Server}
 use Rattle.table.specs.declared.Table.{Table}
 use Rattle.setup.specs.Layout.{server_bytes, record_bytes, bytes_of}
-use Rattle.setup.specs.Read.{task_size, task_checks, tasks_checks, head_size, head_checks, server_size, server_checks, servers_checks, servers_of, servers_size}
-use Rattle.setup.specs.Read.{start_checks, end_of, setup_checks, table_of, read_with, read_of}
+use Rattle.setup.specs.Read.{Reading, task_size, task_checks, tasks_checks, head_size, head_checks, server_size, server_checks, servers_checks, servers_of, servers_size}
+use Rattle.setup.specs.Read.{start_checks, end_of, setup_checks, table_of, read_with, reading_by, read_of}
 use Rattle.setup.specs.Records.{StartRight}
-use Rattle.setup.specs.declared.Reading.{Reading}
 use Rattle.setup.proofs.Records.{start_right}
+use Rattle.setup.proofs.Parsing.{some_number}
 use Rattle.setup.proofs.Parsed.{field_bytes, Entry, servers_number, servers_read, servers_pass, servers_size_lem, servers_most, ServersPassed, servers_passed, servers_all_bytes}
 
 abbrev pub record_checks : ℕ → ℕ → List ℕ → List Check
@@ -221,3 +224,10 @@ module _ (D W : ℕ) (bs : List ℕ) where
   pub passed_read : Passed (setup_checks D W bs) → read_of D W bs ≡ read_with none (table_of bs)
   unfolding read_of
   passed_read p = rw (passed_none (setup_checks D W bs) p)
+
+-- an outcome is told by its reading
+pub reading_one : (a b : Result Table Fault) → reading_by a ≡ reading_by b → a ≡ b
+reading_one (Ok t) (Ok u) e = ap Ok (ap (λ (x : Reading). x.table) e)
+reading_one (Ok t) (Err f) e = absurd (some_number f.reason (ap (λ (x : Reading). x.refusal.number) (sym e)))
+reading_one (Err f) (Ok t) e = absurd (some_number f.reason (ap (λ (x : Reading). x.refusal.number) e))
+reading_one (Err f) (Err g) e = ap Err (fault_one f g (ap (λ (x : Reading). x.refusal) e))

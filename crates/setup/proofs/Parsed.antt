@@ -286,7 +286,7 @@ module _ (D W : ℕ) (s : Server) (h : Entry D W s) where
   used_filled = rw h.tasks at (padded_take zero_task s.count s.tasks (omega arith) h.sound.unused)
 
   entry_length : length (server_bytes s) ≡ head_size + task_size * s.count
-  entry_length = server_length s (omega arith)
+  entry_length = rw (server_length s, used_number)
 
 module _ (D W : ℕ) (d : D < 256 ^ 4) (w : W < 256 ^ 4) (s : Server) (h : Entry D W s) (rest : List ℕ) where
   more : List ℕ

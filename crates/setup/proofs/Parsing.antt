@@ -1,316 +1,232 @@
--- Reading records one behind the other, over any kind of record: of a server's tasks and of a setup's servers. Over any longest distance D and any most
--- work W. Assumes nothing.
+-- Reading records one behind the other, over any kind of record: of a server's tasks and of a setup's servers. Assumes nothing.
 use mathlib.Core.Path.{◌≡◌, refl, sym, ap, ◌∙◌}
 use mathlib.Core.List.{List, [], ◌∷◌, ◌++◌}
+use mathlib.Core.Logic.{◌≢◌}
 use Prim.Native.Nat.{ℕ, zero, suc, ◌+◌, ◌*◌, ◌-◌, ◌≤◌, ◌<◌}
-use native.Mathlib.Nat.{add_assoc}
+use native.Mathlib.Nat.{add-zero, add_assoc}
 use native.Mathlib.Numerals.{add-one}
 use native.Mathlib.Omega.{arith}
 use lib.Dec.{leb, ltb, eqb}
 use lib.ListN.{length, drop, set, replicate, length-drop}
 use lib.Seq.{drop-drop}
-use borrow.Author.Tests.{eq-eqb, ne_eqb, eqb-true, lt-ltb, le-ltb, ltb-false, leb-true, not-false}
+use borrow.Author.Tests.{ne_eqb, lt-ltb, le-ltb, ltb-false, leb-true, not-false}
+use Rattle.std.specs.Prelude.{Result, Ok, Err}
+use Rattle.std.specs.Result.{IsErrAnd}
 use Rattle.small.specs.Small.{pick, padded}
-use Rattle.small.proofs.Padded.{padded_push}
 use Rattle.small.proofs.Tests.{both_right}
-use Rattle.refusal.specs.Numbers.{bytes_left}
+use Rattle.small.proofs.Padded.{padded_push}
+use Rattle.refusal.specs.Reason.{number_of, fault_of, refusal_at, fault_in}
 use Rattle.refusal.specs.Refusal.{refused, none, Check, first_of}
+use Rattle.refusal.specs.declared.Fault.{Fault}
+use Rattle.refusal.specs.declared.Reason.{Reason}
+use Rattle.refusal.specs.declared.Reason.TheVariants.{BytesLeft}
 use Rattle.refusal.specs.declared.Refusal.{Refusal}
-use Rattle.refusal.proofs.Decided.{Decided, decided}
-use Rattle.refusal.proofs.Exactly.{Numbered, numbered, numbered_append, first_append, neither_refuses, passes}
-use Rattle.field.specs.Field.{byte_of, field_of}
+use Rattle.refusal.proofs.Exactly.{Numbered, numbered_append, first_append, passes}
+use Rattle.refusal.proofs.Reasons.{refusal_in_one}
+use Rattle.refusal.specs.Numbers.{bytes_left}
+use Rattle.field.specs.Field.{byte_of}
 use Rattle.table.specs.Limits.{entries}
-use Rattle.table.specs.Table.{ticks, served, zero_server, zero_table}
+use Rattle.table.specs.Table.{zero_task, zero_server, zero_table}
 use Rattle.table.specs.Sound.{rangeb}
 use Rattle.table.specs.declared.Task.{Task}
 use Rattle.table.specs.declared.Server.{Server}
-use Rattle.setup.specs.declared.TasksRead.{TasksRead}
-use Rattle.setup.specs.declared.ServerRead.{ServerRead}
-use Rattle.setup.specs.declared.ServersRead.{ServersRead}
-use Rattle.setup.specs.Read.{task_size, task_checks, task_of, tasks_checks, tasks_of, head_size, head_checks, server_checks, server_of, server_size, servers_checks, servers_of, servers_size, start_checks, end_of, setup_checks, table_of, read_with, read_of}
-use Rattle.setup.specs.Moves.{tasks_with, tasks_read_of, server_with, server_read_of, servers_with, servers_read_of}
+use Rattle.table.specs.declared.Table.{Table}
+use Rattle.setup.specs.Read.{task_size, task_checks, task_of, tasks_checks, tasks_of, head_size, head_checks, server_checks, server_of, server_size, servers_checks, servers_of, servers_size, start_checks, end_of, setup_checks, read_with, reading_by, read_of, table_of}
+use Rattle.setup.specs.Moves.{head_of, all_checks, all_given, all_size, head_numbered, server_numbered, start_numbered}
 
--- RECORDS
+-- a reason's number is not that of none
+pub some_number : (r : Reason) → number_of r ≢ 0
+some_number r e = absurd (let h = refusal_in_one (Ok tt) (Err r) (ap (λ (n : ℕ). refused n 0) (sym e)) in cc)
 
--- a kind of record: how one is checked at a place and read, how long it is, and the same of n, one behind the other
-pub record Records (A : Type 0) : Type 0 where
-  pub checks : ℕ → List ℕ → List Check
-  pub of : List ℕ → A
-  pub size : List ℕ → ℕ
-  pub all_checks : ℕ → ℕ → List ℕ → List Check
-  pub all_of : ℕ → List ℕ → List A
-  pub all_size : ℕ → List ℕ → ℕ
-  pub no_checks : (k : ℕ) (bs : List ℕ) → all_checks zero k bs ≡ []
-  pub more_checks : (n k : ℕ) (bs : List ℕ) → all_checks (suc n) k bs ≡ checks k bs ++ all_checks n (k + size bs) (drop (size bs) bs)
-  pub no_of : (bs : List ℕ) → all_of zero bs ≡ []
-  pub more_of : (n : ℕ) (bs : List ℕ) → all_of (suc n) bs ≡ of bs ∷ all_of n (drop (size bs) bs)
-  pub no_size : (bs : List ℕ) → all_size zero bs ≡ 0
-  pub more_size : (n : ℕ) (bs : List ℕ) → all_size (suc n) bs ≡ size bs + all_size n (drop (size bs) bs)
-  pub none_zero : (k : ℕ) (bs : List ℕ) → Numbered (checks k bs)
-  pub whole : (k : ℕ) (bs : List ℕ) → (first_of (checks k bs)).number ≡ 0 → size bs ≤ length bs
+-- an outcome whose error is known is the refusal of it
+pub refused_by : {A : Type 0} (r : Result A Fault) (f : Fault) → IsErrAnd r (λ e. e ≡ f) → fault_in r ≡ refusal_at f
+refused_by (Ok x) f h = absurd h
+refused_by (Err e) f h = ap refusal_at h
 
-module _ {A : Type 0} (r : Records A) where
-  pub all_numbered : (n k : ℕ) (bs : List ℕ) → Numbered (r.all_checks n k bs)
-  all_numbered zero k bs = rw (r.no_checks k bs) tt
-  all_numbered (suc n) k bs =
-      let l = r.size bs in
-      rw (r.more_checks n k bs) (numbered_append (r.checks k bs) (r.all_checks n (k + l) (drop l bs)) (r.none_zero k bs) (all_numbered n (k + l) (drop l bs)))
+pub reading_of : (r : Result Table Fault) (f : Fault) → IsErrAnd r (λ e. e ≡ f) → reading_by r ≡ read_with (refusal_at f) zero_table
+reading_of (Ok x) f h = absurd h
+reading_of (Err e) f h = ap (λ (f : Fault). read_with (refusal_at f) zero_table) h
 
-  length_of : (n : ℕ) (bs : List ℕ) → length (r.all_of n bs) ≡ n
-  length_of zero bs = rw (r.no_of bs)
-  length_of (suc n) bs = rw (r.more_of n bs) (ap suc (length_of n _))
+module _ {A : Type 0} (checks : ℕ → List ℕ → List Check) (gives : List ℕ → A) (span : List ℕ → ℕ) where
+  length_given : (n : ℕ) (bs : List ℕ) → length (all_given gives span n bs) ≡ n
+  length_given zero bs = refl
+  length_given (suc n) bs = ap suc (length_given n _)
 
   -- one record more
-  last_size : (n : ℕ) (bs : List ℕ) → r.all_size (suc n) bs ≡ r.all_size n bs + r.size (drop (r.all_size n bs) bs)
-  last_size zero bs = rw (r.more_size zero bs, r.no_size bs, r.no_size) (omega arith)
-  last_size (suc n) bs =
-      rw (r.more_size (suc n) bs, r.more_size n bs, last_size n (drop (r.size bs) bs), drop-drop)
-      (sym (add_assoc (r.size bs) _ _))
+  last_size : (n : ℕ) (bs : List ℕ) → all_size span (suc n) bs ≡ all_size span n bs + span (drop (all_size span n bs) bs)
+  last_size zero bs = omega arith
+  last_size (suc n) bs = rw (last_size n (drop (span bs) bs), drop-drop) (sym (add_assoc (span bs) _ _))
 
-  last_of : (n : ℕ) (bs : List ℕ) → r.all_of (suc n) bs ≡ r.all_of n bs ++ (r.of (drop (r.all_size n bs) bs) ∷ [])
-  last_of zero bs = rw (r.more_of zero bs, r.no_of (drop (r.size bs) bs), r.no_of bs, r.no_size bs)
-  last_of (suc n) bs =
-      rw (r.more_of (suc n) bs, r.more_of n bs, r.more_size n bs, last_of n (drop (r.size bs) bs), drop-drop)
+  last_given : (n : ℕ) (bs : List ℕ) → all_given gives span (suc n) bs ≡ all_given gives span n bs ++ (gives (drop (all_size span n bs) bs) ∷ [])
+  last_given zero bs = refl
+  last_given (suc n) bs = rw (last_given n (drop (span bs) bs), drop-drop)
 
-  -- records of which none is refused are whole
-  pub all_whole : (n k : ℕ) (bs : List ℕ) → (first_of (r.all_checks n k bs)).number ≡ 0 → r.all_size n bs ≤ length bs
-  all_whole zero k bs e = rw (r.no_size bs) (omega arith)
-  all_whole (suc n) k bs e =
-      let l = r.size bs in
-      let h = neither_refuses (r.checks k bs) (r.all_checks n (k + l) (drop l bs)) (r.none_zero k bs) (rw (r.more_checks n k bs) at e) in
-      let one : l ≤ length bs = r.whole k bs h.0 in
-      let rest : r.all_size n (drop l bs) ≤ length bs - l = rw (← length-drop l bs) (all_whole n (k + l) (drop l bs) h.1) in
-      rw (r.more_size n bs) (omega arith)
+  -- A LOOP that reads n records from the bytes bs at place k on into an array, where i of them are read and the bytes behind them are left
+  pub record SoFar (z : A) (most k : ℕ) (bs : List ℕ) (n : ℕ) (xs : List A) (at : ℕ) (rest : List ℕ) (i : ℕ) : Type 0 where
+    pub within : i ≤ n
+    pub place : at ≡ k + all_size span i bs
+    pub behind : rest ≡ drop (all_size span i bs) bs
+    pub read : xs ≡ padded z most (all_given gives span i bs)
+    pub left : first_of (all_checks checks span n k bs) ≡ first_of (all_checks checks span (n - i) at rest)
 
-  -- A LOOP that reads n records of bs from place k on into an array, where i of them are read and the next begins at a place
-  module _ (z : A) (most : ℕ) (bs : List ℕ) (k n : ℕ) where
-    -- what it answers: the refusal, or the records and the place behind them
-    abbrev pub answer : {B : Type 0} → (Refusal → List A → ℕ → B) → B
-    answer give =
-        let f = first_of (r.all_checks n k (drop k bs)) in
-        pick (eqb f.number 0) (give none (padded z most (r.all_of n (drop k bs))) (k + r.all_size n (drop k bs))) (give f (padded z most []) 0)
+  -- it begins with none
+  pub so_far_none : (z : A) (most k : ℕ) (bs : List ℕ) (n : ℕ) → SoFar z most k bs n (replicate most z) k bs 0
+  so_far_none z most k bs n =
+      let e : n - 0 ≡ n = omega arith in
+      let f : most - 0 ≡ most = omega arith in
+      record { within = omega arith; place = sym (add-zero k); behind = refl; read = rw f; left = rw e }
 
-    pub record SoFar (xs : List A) (next i : ℕ) : Type 0 where
-      pub within : i ≤ n
-      pub place : next ≡ k + r.all_size i (drop k bs)
-      pub inside : next ≤ length bs
-      pub read : xs ≡ padded z most (r.all_of i (drop k bs))
-      pub left : first_of (r.all_checks n k (drop k bs)) ≡ first_of (r.all_checks (n - i) next (drop next bs))
-
-    -- it begins with none
-    pub so_far_none : k ≤ length bs → SoFar (replicate most z) k 0
-    so_far_none h =
-        let e : n - 0 ≡ n = omega arith in
-        let f : most - 0 ≡ most = omega arith in
-        record {
-          within = omega arith;
-          place = rw (r.no_size (drop k bs)) (omega arith);
-          inside = h;
-          read = rw (r.no_of (drop k bs), f);
-          left = rw e;
-        }
-
-module _ {A : Type 0} {r : Records A} {z : A} {most : ℕ} {bs : List ℕ} {k n : ℕ} {xs : List A} {next i : ℕ} (s : SoFar r z most bs k n xs next i) where
-  -- what is left to check: the record at the next place, and those behind it
-  left_is : i < n → first_of (r.all_checks n k (drop k bs))
-      ≡ pick (eqb (first_of (r.checks next (drop next bs))).number 0) (first_of (r.all_checks (n - (i + 1)) (next + r.size (drop next bs)) (drop (next + r.size (drop next bs)) bs))) (first_of (r.checks next (drop next bs)))
+module _ {A : Type 0} {checks : ℕ → List ℕ → List Check} {gives : List ℕ → A} {span : List ℕ → ℕ} {z : A} {most k : ℕ} {bs : List ℕ} {n : ℕ} {xs : List A}
+    {at : ℕ} {rest : List ℕ} {i : ℕ} (s : SoFar checks gives span z most k bs n xs at rest i) (numbered : (k : ℕ) (bs : List ℕ) → Numbered (checks k bs)) where
+  -- what is left to check: the record here, and those behind it
+  left_is : i < n → first_of (all_checks checks span n k bs)
+      ≡ pick (eqb (first_of (checks at rest)).number 0) (first_of (all_checks checks span (n - (i + 1)) (at + span rest) (drop (span rest) rest))) (first_of (checks at rest))
   left_is h =
       let e : n - i ≡ suc (n - (i + 1)) = omega arith in
-      let o : Numbered (r.checks next (drop next bs)) = r.none_zero next (drop next bs) in
-      rw (s.left, e, r.more_checks (n - (i + 1)) next (drop next bs), first_append, drop-drop)
+      rw (s.left, e, first_append (checks at rest) _ (numbered at rest))
 
   -- it is read
-  pub so_far_more : n ≤ most → i < n → (first_of (r.checks next (drop next bs))).number ≡ 0 → SoFar r z most bs k n (set xs i (r.of (drop next bs))) (next + r.size (drop next bs)) (i + 1)
+  pub so_far_more : n ≤ most → i < n → first_of (checks at rest) ≡ none → SoFar checks gives span z most k bs n (set xs i (gives rest)) (at + span rest) (drop (span rest) rest) (i + 1)
   so_far_more m h o =
-      let cs = drop k bs in
-      let ys = r.all_of i cs in
-      let x = r.of (drop next bs) in
-      let here : drop next bs ≡ drop (r.all_size i cs) cs = rw (s.place, drop-drop) in
-      let l : r.size (drop next bs) ≤ length bs - next = rw (← length-drop next bs) (r.whole next (drop next bs) o) in
+      let ys = all_given gives span i bs in
+      let x = gives rest in
+      let last : all_given gives span (i + 1) bs ≡ ys ++ (x ∷ []) = rw (add-one, s.behind) (last_given checks gives span i bs) in
       record {
         within = omega arith;
-        place = rw (add-one, last_size r i cs, here, s.place) (add_assoc k _ _);
-        inside = omega (arith, s.inside);
+        place = rw (add-one, last_size checks gives span i bs, ← s.behind, s.place) (add_assoc k _ _);
+        behind = rw (add-one, last_size checks gives span i bs, ← s.behind, ← drop-drop, ← s.behind);
         read =
             ap (λ (l : List A). set l i x) s.read
-            ∙ ap (λ (j : ℕ). set (padded z most ys) j x) (sym (length_of r i cs))
-            ∙ padded_push z most ys x (rw (length_of r i cs) (omega arith))
-            ∙ rw (add-one, last_of r i cs, here);
-        left = left_is h ∙ rw (eq-eqb _ 0 o);
+            ∙ ap (λ (j : ℕ). set (padded z most ys) j x) (sym (length_given checks gives span i bs))
+            ∙ padded_push z most ys x (rw (length_given checks gives span i bs) (omega arith))
+            ∙ ap (padded z most) (sym last);
+        left = left_is h ∙ rw o;
       }
 
   -- it is refused
-  pub so_far_refused : {B : Type 0} (give : Refusal → List A → ℕ → B) → i < n → ((first_of (r.checks next (drop next bs))).number ≡ 0 → ⊥) → answer r z most bs k n give ≡ give (first_of (r.checks next (drop next bs))) (padded z most []) 0
-  so_far_refused give h o =
-      let e : first_of (r.all_checks n k (drop k bs)) ≡ first_of (r.checks next (drop next bs)) = left_is h ∙ rw (ne_eqb _ 0 o) in
-      rw (e, ne_eqb _ 0 o)
+  pub so_far_refused : i < n → (first_of (checks at rest)).number ≢ 0 → first_of (all_checks checks span n k bs) ≡ first_of (checks at rest)
+  so_far_refused h o = left_is h ∙ rw (ne_eqb _ 0 o)
 
   -- all are read
-  pub so_far_all : {B : Type 0} (give : Refusal → List A → ℕ → B) → n ≤ i → answer r z most bs k n give ≡ give none xs next
-  so_far_all give h =
-      let e : i ≡ n = omega (arith, s.within) in
+  pub so_far_all : n ≤ i → (i ≡ n) × (first_of (all_checks checks span n k bs) ≡ none)
+  so_far_all h =
       let f : n - i ≡ 0 = omega arith in
-      let p : first_of (r.all_checks n k (drop k bs)) ≡ none = s.left ∙ rw (f, r.no_checks next (drop next bs)) in
-      rw (p, s.read, s.place, e)
+      (omega (arith, s.within), s.left ∙ rw f)
 
--- TASKS
+-- THE RECORDS OF A SETUP, for any longest distance D and any most work W
 
-pub task_numbered : (D W k : ℕ) (bs : List ℕ) → Numbered (task_checks D W k bs)
-unfolding task_checks
-task_numbered D W k bs = numbered (task_checks D W k bs) refl
+module _ (D W : ℕ) where
+  pub tasks_checks_are : (n k : ℕ) (bs : List ℕ) → all_checks (task_checks D W) (λ bs. task_size) n k bs ≡ tasks_checks D W n k bs
+  tasks_checks_are zero k bs = refl
+  tasks_checks_are (suc n) k bs = ap (λ (l : List Check). task_checks D W k bs ++ l) (tasks_checks_are n (k + task_size) (drop task_size bs))
 
-pub task_whole : (D W k : ℕ) (bs : List ℕ) → (first_of (task_checks D W k bs)).number ≡ 0 → task_size ≤ length bs
-unfolding task_checks
-task_whole D W k bs e = ltb-false (length bs) task_size ((passes (task_checks D W k bs) (task_numbered D W k bs)).0 e).0
+  pub servers_checks_are : (n k : ℕ) (bs : List ℕ) → all_checks (server_checks D W) server_size n k bs ≡ servers_checks D W n k bs
+  servers_checks_are zero k bs = refl
+  servers_checks_are (suc n) k bs = ap (λ (l : List Check). server_checks D W k bs ++ l) (servers_checks_are n (k + server_size bs) (drop (server_size bs) bs))
 
-abbrev pub task_records : ℕ → ℕ → Records Task
-task_records D W = record {
-  checks = task_checks D W;
-  of = task_of;
-  size = λ bs. task_size;
-  all_checks = tasks_checks D W;
-  all_of = tasks_of;
-  all_size = λ n bs. task_size * n;
-  no_checks = λ k bs. refl;
-  more_checks = λ n k bs. refl;
-  no_of = λ bs. refl;
-  more_of = λ n bs. refl;
-  no_size = λ bs. omega arith;
-  more_size = λ n bs. omega arith;
-  none_zero = task_numbered D W;
-  whole = task_whole D W;
-}
+pub tasks_of_are : (n : ℕ) (bs : List ℕ) → all_given task_of (λ bs. task_size) n bs ≡ tasks_of n bs
+tasks_of_are zero bs = refl
+tasks_of_are (suc n) bs = ap (λ (l : List Task). task_of bs ∷ l) (tasks_of_are n (drop task_size bs))
 
-tasks_decided : (D W n k : ℕ) (bs : List ℕ) (t : TasksRead) → t ≡ tasks_read_of D W n k bs
-    → let f = first_of (tasks_checks D W n k bs) in Decided (λ t. t.refusal) f (tasks_with none (tasks_of n bs) (k + task_size * n)) (tasks_with f [] 0) t
-unfolding tasks_read_of
-tasks_decided D W n k bs t e = decided (λ t. t.refusal) (first_of (tasks_checks D W n k bs)) _ _ t refl refl e
+pub servers_of_are : (n : ℕ) (bs : List ℕ) → all_given server_of server_size n bs ≡ servers_of n bs
+servers_of_are zero bs = refl
+servers_of_are (suc n) bs = ap (λ (l : List Server). server_of bs ∷ l) (servers_of_are n (drop (server_size bs) bs))
 
--- SERVERS
+pub tasks_size_is : (n : ℕ) (bs : List ℕ) → all_size (λ bs. task_size) n bs ≡ task_size * n
+tasks_size_is zero bs = refl
+tasks_size_is (suc n) bs = omega (arith, tasks_size_is n (drop task_size bs))
 
-head_numbered : (D k : ℕ) (bs : List ℕ) → Numbered (head_checks D k bs)
-unfolding head_checks
-head_numbered D k bs = numbered (head_checks D k bs) refl
+pub servers_size_is : (n : ℕ) (bs : List ℕ) → all_size server_size n bs ≡ servers_size n bs
+servers_size_is zero bs = refl
+servers_size_is (suc n) bs = ap (λ (m : ℕ). server_size bs + m) (servers_size_is n (drop (server_size bs) bs))
 
--- a server's head that is not refused is whole, and it has at most as many tasks as there are entries
-pub head_whole : (D k : ℕ) (bs : List ℕ) → (first_of (head_checks D k bs)).number ≡ 0 → (head_size ≤ length bs) × (byte_of 1 bs ≤ entries)
-unfolding head_checks
-head_whole D k bs e =
-    let p = (passes (head_checks D k bs) (head_numbered D k bs)).0 e in
-    (ltb-false (length bs) head_size p.0, ltb-false entries (byte_of 1 bs) p.1.1.0)
+pub servers_numbered : (D W n k : ℕ) (bs : List ℕ) → Numbered (servers_checks D W n k bs)
+servers_numbered D W zero k bs = tt
+servers_numbered D W (suc n) k bs =
+    numbered_append (server_checks D W k bs) _ (server_numbered D W k bs) (servers_numbered D W n (k + server_size bs) (drop (server_size bs) bs))
 
-pub server_numbered : (D W k : ℕ) (bs : List ℕ) → Numbered (server_checks D W k bs)
+-- a server's checks are those of its head, and then of its tasks
+pub server_first : (D W k : ℕ) (bs : List ℕ) → let h = first_of (head_checks D k bs) in
+    first_of (server_checks D W k bs) ≡ pick (eqb h.number 0) (first_of (tasks_checks D W (byte_of 1 bs) (k + head_size) (drop head_size bs))) h
 unfolding server_checks
-server_numbered D W k bs =
-    numbered_append (head_checks D k bs) (tasks_checks D W (byte_of 1 bs) (k + head_size) (drop head_size bs)) (head_numbered D k bs) (all_numbered (task_records D W) (byte_of 1 bs) (k + head_size) (drop head_size bs))
+server_first D W k bs = first_append (head_checks D k bs) _ (head_numbered D k bs)
 
-pub server_whole : (D W k : ℕ) (bs : List ℕ) → (first_of (server_checks D W k bs)).number ≡ 0 → server_size bs ≤ length bs
-unfolding server_checks
-server_whole D W k bs e =
-    let h = neither_refuses (head_checks D k bs) (tasks_checks D W (byte_of 1 bs) (k + head_size) (drop head_size bs)) (head_numbered D k bs) e in
-    let head : head_size ≤ length bs = (head_whole D k bs h.0).0 in
-    let rest : task_size * byte_of 1 bs ≤ length bs - head_size = rw (← length-drop head_size bs) (all_whole (task_records D W) (byte_of 1 bs) (k + head_size) (drop head_size bs) h.1) in
-    omega arith
+-- a setup's are those of its start, then of its servers, and then that no byte is left
+pub setup_first : (D W : ℕ) (bs : List ℕ) → let f = first_of (start_checks bs) in
+    let g = first_of (servers_checks D W (byte_of 3 bs) 4 (drop 4 bs)) in
+    first_of (setup_checks D W bs) ≡ pick (eqb f.number 0) (pick (eqb g.number 0) (pick (ltb (end_of bs) (length bs)) (refused bytes_left (end_of bs)) none) g) f
+unfolding setup_checks
+setup_first D W bs =
+    rw (first_append (start_checks bs) _ (start_numbered bs), first_append (servers_checks D W (byte_of 3 bs) 4 (drop 4 bs)) _ (servers_numbered D W (byte_of 3 bs) 4 (drop 4 bs)))
 
-abbrev pub server_records : ℕ → ℕ → Records Server
-server_records D W = record {
-  checks = server_checks D W;
-  of = server_of;
-  size = server_size;
-  all_checks = servers_checks D W;
-  all_of = servers_of;
-  all_size = servers_size;
-  no_checks = λ k bs. refl;
-  more_checks = λ n k bs. refl;
-  no_of = λ bs. refl;
-  more_of = λ n bs. refl;
-  no_size = λ bs. refl;
-  more_size = λ n bs. refl;
-  none_zero = server_numbered D W;
-  whole = server_whole D W;
-}
-
-pub server_decided : (D W k : ℕ) (bs : List ℕ) (t : ServerRead) → t ≡ server_read_of D W k bs
-    → let f = first_of (server_checks D W k bs) in Decided (λ t. t.refusal) f (server_with none (server_of bs) (k + server_size bs)) (server_with f zero_server 0) t
-unfolding server_read_of
-server_decided D W k bs t e = decided (λ t. t.refusal) (first_of (server_checks D W k bs)) _ _ t refl refl e
-
-servers_decided : (D W n k : ℕ) (bs : List ℕ) (t : ServersRead) → t ≡ servers_read_of D W n k bs
-    → let f = first_of (servers_checks D W n k bs) in Decided (λ t. t.refusal) f (servers_with none (servers_of n bs) (k + servers_size n bs)) (servers_with f [] 0) t
-unfolding servers_read_of
-servers_decided D W n k bs t e = decided (λ t. t.refusal) (first_of (servers_checks D W n k bs)) _ _ t refl refl e
-
--- A SERVER is refused by its head, or by its tasks t, or it is read with them
+-- A SERVER is refused by its head, or by its tasks, or it is read with them
 module _ (D W k : ℕ) (bs : List ℕ) where
-  server_checks_are : first_of (server_checks D W k bs) ≡ pick (eqb (first_of (head_checks D k bs)).number 0) (first_of (tasks_checks D W (byte_of 1 bs) (k + head_size) (drop head_size bs))) (first_of (head_checks D k bs))
-  unfolding server_checks
-  server_checks_are = first_append (head_checks D k bs) _ (head_numbered D k bs)
+  pub server_by_head : (f : Fault) → refusal_at f ≡ first_of (head_checks D k bs) → refusal_at f ≡ first_of (server_checks D W k bs)
+  server_by_head f e = rw (server_first D W k bs, ← e, ne_eqb _ 0 (some_number f.reason))
 
-  pub head_refused : ((first_of (head_checks D k bs)).number ≡ 0 → ⊥) → server_read_of D W k bs ≡ server_with (first_of (head_checks D k bs)) zero_server 0
-  unfolding server_read_of
-  head_refused o = rw (server_checks_are, ne_eqb _ 0 o, ne_eqb _ 0 o)
+  -- behind the head, n tasks
+  module _ (n : ℕ) (rest : List ℕ) (m : n ≡ byte_of 1 bs) (r : rest ≡ drop head_size bs) where
+    pub server_by_tasks : (at : ℕ) → none ≡ first_of (head_checks D k bs) → at ≡ k + head_size
+        → first_of (all_checks (task_checks D W) (λ bs. task_size) n at rest) ≡ first_of (server_checks D W k bs)
+    server_by_tasks at h a = rw (server_first D W k bs, ← h, m, r, a, tasks_checks_are)
 
-  module _ (h : (first_of (head_checks D k bs)).number ≡ 0) (t : TasksRead) (e : t ≡ tasks_read_of D W (byte_of 1 bs) (k + head_size) (drop head_size bs)) where
-    pub tasks_refused : (t.refusal.number ≡ 0 → ⊥) → server_read_of D W k bs ≡ server_with t.refusal zero_server 0
-    unfolding server_read_of
-    tasks_refused o =
-        let a = (tasks_decided D W (byte_of 1 bs) (k + head_size) (drop head_size bs) t e).refused o in
-        rw (server_checks_are, eq-eqb _ 0 h, ne_eqb _ 0 a.0, a.1)
+    pub server_is : (s : Server) (ts : List Task) → s ≡ head_of bs → ts ≡ padded zero_task entries (all_given task_of (λ bs. task_size) n rest) → record s { tasks = ts } ≡ server_of bs
+    unfolding server_of
+    server_is s ts h t = rw (h, t, m, r, tasks_of_are)
 
-    pub server_read : t.refusal.number ≡ 0
-        → server_read_of D W k bs ≡ server_with none record { tasks = t.tasks; count = byte_of 1 bs; kind = byte_of 0 bs; period = ticks (field_of 4 (drop 2 bs)); budget = served (field_of 4 (drop 6 bs)) } t.next
-    unfolding server_read_of server_of
-    server_read o =
-        let a = (tasks_decided D W (byte_of 1 bs) (k + head_size) (drop head_size bs) t e).passed o in
-        rw (server_checks_are, eq-eqb _ 0 h, eq-eqb _ 0 a.0, a.1, add_assoc)
+    pub server_behind : (at next : ℕ) (left : List ℕ) → at ≡ k + head_size → next ≡ at + all_size (λ bs. task_size) n rest → left ≡ drop (all_size (λ bs. task_size) n rest) rest
+        → (next ≡ k + server_size bs) × (left ≡ drop (server_size bs) bs)
+    server_behind at next left a p q = (omega (arith, tasks_size_is n rest), rw (q, tasks_size_is, r, drop-drop, m))
 
--- A SETUP
-
-start_numbered : (bs : List ℕ) → Numbered (start_checks bs)
-unfolding start_checks
-start_numbered bs = numbered (start_checks bs) refl
-
--- a start that is not refused is whole, states the length, and has at most as many servers as there are entries
-pub start_whole : (bs : List ℕ) → (first_of (start_checks bs)).number ≡ 0 → (4 ≤ length bs) × (field_of 2 bs ≡ length bs) × (byte_of 3 bs ≤ entries)
-unfolding start_checks
-start_whole bs e =
-    let p = (passes (start_checks bs) (start_numbered bs)).0 e in
-    let n = not-false (rangeb 1 entries (byte_of 3 bs)) p.1.1.1.0 in
-    (ltb-false (length bs) 4 p.0, eqb-true (field_of 2 bs) (length bs) (not-false _ p.1.0), leb-true (byte_of 3 bs) entries (both_right (leb 1 (byte_of 3 bs)) _ n))
-
--- it is refused by its start, or by its servers t, or by bytes behind them, or it is read with them
+-- A SETUP is refused by its start, or by its servers, or by bytes behind them, or it is read with them
 module _ (D W : ℕ) (bs : List ℕ) where
-  setup_checks_are : let f = first_of (start_checks bs) in
-      let g = first_of (servers_checks D W (byte_of 3 bs) 4 (drop 4 bs)) in
-      first_of (setup_checks D W bs) ≡ pick (eqb f.number 0) (pick (eqb g.number 0) (pick (ltb (end_of bs) (length bs)) (refused bytes_left (end_of bs)) none) g) f
-  unfolding setup_checks
-  setup_checks_are =
-      let o = start_numbered bs in
-      let p = all_numbered (server_records D W) (byte_of 3 bs) 4 (drop 4 bs) in
-      rw (first_append (start_checks bs) _ o, first_append (servers_checks D W (byte_of 3 bs) 4 (drop 4 bs)) _ p)
-
-  pub start_refused : ((first_of (start_checks bs)).number ≡ 0 → ⊥) → read_of D W bs ≡ read_with (first_of (start_checks bs)) zero_table
+  refused_read : (f : Fault) → refusal_at f ≡ first_of (setup_checks D W bs) → read_with (refusal_at f) zero_table ≡ read_of D W bs
   unfolding read_of
-  start_refused o = rw (setup_checks_are, ne_eqb _ 0 o, ne_eqb _ 0 o)
+  refused_read f e = rw (← e, ne_eqb _ 0 (some_number f.reason))
 
-  module _ (h : (first_of (start_checks bs)).number ≡ 0) (t : ServersRead) (e : t ≡ servers_read_of D W (byte_of 3 bs) 4 (drop 4 bs)) where
-    pub servers_refused : (t.refusal.number ≡ 0 → ⊥) → read_of D W bs ≡ read_with t.refusal zero_table
-    unfolding read_of
-    servers_refused o =
-        let a = (servers_decided D W (byte_of 3 bs) 4 (drop 4 bs) t e).refused o in
-        rw (setup_checks_are, eq-eqb _ 0 h, ne_eqb _ 0 a.0, ne_eqb _ 0 a.0, a.1)
+  pub read_by_start : (f : Fault) → refusal_at f ≡ first_of (start_checks bs) → read_with (refusal_at f) zero_table ≡ read_of D W bs
+  read_by_start f e = refused_read f (rw (setup_first D W bs, ← e, ne_eqb _ 0 (some_number f.reason)))
 
-    module _ (o : t.refusal.number ≡ 0) where
-      pub bytes_left_lem : t.next < length bs → read_of D W bs ≡ read_with (refused bytes_left t.next) zero_table
-      unfolding read_of
-      bytes_left_lem l =
-          let a = (servers_decided D W (byte_of 3 bs) 4 (drop 4 bs) t e).passed o in
-          let p : t.next ≡ end_of bs = ap (λ (x : ServersRead). x.next) a.1 in
-          rw (setup_checks_are, eq-eqb _ 0 h, eq-eqb _ 0 a.0, ← p, lt-ltb t.next (length bs) l)
+  -- behind the start, n servers
+  module _ (n : ℕ) (rest : List ℕ) (m : n ≡ byte_of 3 bs) (r : rest ≡ drop 4 bs) (h : none ≡ first_of (start_checks bs)) where
+    servers_are : first_of (all_checks (server_checks D W) server_size n 4 rest) ≡ first_of (servers_checks D W (byte_of 3 bs) 4 (drop 4 bs))
+    servers_are = rw (m, r, servers_checks_are)
 
-      pub setup_read : length bs ≤ t.next → read_of D W bs ≡ read_with none record { servers = t.servers; count = byte_of 3 bs }
+    pub read_by_servers : (f : Fault) → refusal_at f ≡ first_of (all_checks (server_checks D W) server_size n 4 rest) → read_with (refusal_at f) zero_table ≡ read_of D W bs
+    read_by_servers f e = refused_read f (rw (setup_first D W bs, ← h, ← servers_are, ← e, ne_eqb _ 0 (some_number f.reason)))
+
+    -- and behind them, what is left
+    module _ (o : none ≡ first_of (all_checks (server_checks D W) server_size n 4 rest)) (at : ℕ) (left : List ℕ) (a : at ≡ 4 + all_size server_size n rest)
+        (b : left ≡ drop (all_size server_size n rest) rest) where
+      here : at ≡ end_of bs
+      here = rw (a, servers_size_is, m, r)
+
+      some_left : length left ≡ length bs - at
+      some_left =
+          let l : length rest ≡ length bs - 4 = rw r (length-drop 4 bs) in
+          rw (b, length-drop) (omega arith)
+
+      pub read_by_end : 0 < length left → read_with (refusal_at (fault_of BytesLeft at)) zero_table ≡ read_of D W bs
+      read_by_end l =
+          refused_read (fault_of BytesLeft at) (rw (setup_first D W bs, ← h, ← servers_are, ← o, ← here, lt-ltb at (length bs) (omega (arith, some_left))))
+
+      pub read_is : length left ≡ 0 → (ss : List Server) → ss ≡ padded zero_server entries (all_given server_of server_size n rest)
+          → read_with none record { servers = ss; count = n } ≡ read_of D W bs
       unfolding read_of table_of
-      setup_read l =
-          let a = (servers_decided D W (byte_of 3 bs) 4 (drop 4 bs) t e).passed o in
-          let p : t.next ≡ end_of bs = ap (λ (x : ServersRead). x.next) a.1 in
-          rw (setup_checks_are, eq-eqb _ 0 h, eq-eqb _ 0 a.0, ← p, le-ltb t.next (length bs) l, a.1)
+      read_is l ss t =
+          let e : first_of (setup_checks D W bs) ≡ none = rw (setup_first D W bs, ← h, ← servers_are, ← o, ← here, le-ltb at (length bs) (omega (arith, some_left))) in
+          rw (e, t, m, r, servers_of_are)
+
+-- a start that is not refused has at most as many servers as there are entries
+pub start_few : (bs : List ℕ) → first_of (start_checks bs) ≡ none → byte_of 3 bs ≤ entries
+unfolding start_checks
+start_few bs e =
+    let p = (passes (start_checks bs) (start_numbered bs)).0 (ap (λ (r : Refusal). r.number) e) in
+    leb-true (byte_of 3 bs) entries (both_right (leb 1 (byte_of 3 bs)) _ (not-false (rangeb 1 entries (byte_of 3 bs)) p.1.1.1.0))
+
+-- a head, as many tasks as there are entries
+pub head_few : (D k : ℕ) (bs : List ℕ) → first_of (head_checks D k bs) ≡ none → byte_of 1 bs ≤ entries
+unfolding head_checks
+head_few D k bs e =
+    let p = (passes (head_checks D k bs) (head_numbered D k bs)).0 (ap (λ (r : Refusal). r.number) e) in
+    ltb-false entries (byte_of 1 bs) p.1.1.0

@@ -20,9 +20,8 @@ use Rattle.table.specs.declared.Server.{Server}
 use Rattle.table.specs.declared.Table.{Table}
 use Rattle.table.proofs.Soundness.{table_sound}
 use Rattle.setup.specs.Layout.{task_bytes, head_bytes, server_bytes, record_bytes, bytes_of}
-use Rattle.setup.specs.Read.{table_of, read_with, read_of}
+use Rattle.setup.specs.Read.{Reading, table_of, read_with, read_of}
 use Rattle.setup.specs.Write.{written_to, write_answer}
-use Rattle.setup.specs.declared.Reading.{Reading}
 use Rattle.setup.proofs.Accepted.{table_read, table_passes, table_sized, table_in_range, table_bytes, most_bytes, stated_length, all_bytes, read_passed, passed_read}
 use Rattle.setup.proofs.Refusals.{write_accepted}
 use Rattle.setup.proofs.Unchanged.{write_whole}

@@ -9,9 +9,8 @@ use Rattle.field.proofs.Answers.{written_number, written_none, written_whole, bu
 use Rattle.table.specs.Table.{zero_table}
 use Rattle.table.specs.declared.Table.{Table}
 use Rattle.setup.specs.Layout.{bytes_of}
-use Rattle.setup.specs.Read.{read_of}
+use Rattle.setup.specs.Read.{Reading, read_of}
 use Rattle.setup.specs.Write.{write_refusal, written_to, write_answer}
-use Rattle.setup.specs.declared.Reading.{Reading}
 use Rattle.setup.proofs.Accepted.{read_decided}
 use Rattle.setup.proofs.Refusals.{write_accepted}
 

@@ -1,27 +1,25 @@
 -- Laws of the writer: how many bytes the parts of a table take, that parts written one behind the other are written as one, and what a table that the code
 -- holds gives the writer. Assumes nothing.
 use mathlib.Core.Path.{◌≡◌, refl, sym}
-use mathlib.Core.Bool.{true}
-use mathlib.Core.List.{List, ◌++◌}
-use Prim.Native.Nat.{ℕ, ◌+◌, ◌*◌, ◌≤◌, ◌<◌}
+use mathlib.Core.Bool.{Bool, true}
+use mathlib.Core.List.{List, [], ◌∷◌, ◌++◌}
+use Prim.Native.Nat.{ℕ, zero, suc, ◌+◌, ◌*◌, ◌≤◌, ◌<◌}
 use native.Mathlib.Nat.{add-zero}
 use native.Mathlib.Omega.{arith}
 use lib.ListN.{length, take, get_or, length-append}
-use lib.Seq.{length-take-le}
-use Rattle.small.specs.Small.{each}
+use lib.Seq.{take_all, take-length}
+use lib.Dec.{leb}
+use borrow.Author.Tests.{leb-true}
+use Rattle.small.specs.Small.{each, usedb, All}
 use Rattle.small.proofs.Each.{each_more, length_more, length_fewer, sizes_of, each_length}
-use Rattle.small.proofs.Lists.{get_or_inside}
-use Rattle.table.proofs.Sizes.{past_server}
+use Rattle.small.proofs.Tests.{both_left, both_right}
 use Rattle.field.specs.Field.{over}
 use Rattle.field.proofs.Fields.{over_over, over_length, over_nil}
 use Rattle.table.specs.Limits.{entries}
-use Rattle.table.specs.Table.{zero_server}
-use Rattle.table.specs.Sound.{tableb}
-use Rattle.table.specs.Meaning.{Sized}
+use Rattle.table.specs.Sound.{rangeb, kindb, serverb, zero_serverb, tableb}
 use Rattle.table.specs.declared.Task.{Task}
 use Rattle.table.specs.declared.Server.{Server}
 use Rattle.table.specs.declared.Table.{Table}
-use Rattle.table.proofs.Soundness.{table_sound}
 use Rattle.setup.specs.Layout.{task_bytes, head_bytes, server_bytes, record_bytes, bytes_of}
 use Rattle.setup.specs.Read.{task_size, head_size}
 
@@ -36,28 +34,31 @@ pub record Done {A : Type 0} (f : A → List ℕ) (xs : List A) (at : ℕ) (buf 
   pub place : next ≡ at + length (each f (take i xs))
   pub bytes : out ≡ over at (each f (take i xs)) buf
 
-module _ {A : Type 0} (f : A → List ℕ) where
-  module _ (xs : List A) (at : ℕ) (buf : List ℕ) where
-    pub done_start : at ≤ length buf → Done f xs at buf 0 at buf
-    done_start h = record { place = sym (add-zero at); bytes = sym (over_nil at buf h) }
+module _ {A : Type 0} (f : A → List ℕ) (xs : List A) (at : ℕ) (buf : List ℕ) (room : at + length (each f xs) ≤ length buf) where
+  pub done_start : Done f xs at buf 0 at buf
+  done_start = record { place = sym (add-zero at); bytes = sym (over_nil at buf (omega arith)) }
 
-    pub done_length : {i next : ℕ} {out : List ℕ} → Done f xs at buf i next out → length out ≡ length buf
-    done_length d = rw d.bytes (over_length at _ buf)
+  -- where the buffer has room for the bytes of all, it has room for those of the one at i, and with them one more is written
+  module _ {i next : ℕ} {out : List ℕ} (before : i < length xs) (d : Done f xs at buf i next out) (z : A) where
+    all_room : at + length (each f (take (length xs) xs)) ≤ length buf
+    all_room = rw take-length room
 
-    -- where the buffer has room for the bytes of the first n, it has room for those of the one at i, and with them one more is written
-    module _ (n : ℕ) (enough : n ≤ length xs) (room : at + length (each f (take n xs)) ≤ length buf)
-        {i next : ℕ} {out : List ℕ} (before : i < n) (d : Done f xs at buf i next out) (z : A) where
-      fits : next + length (f (get_or xs i z)) ≤ length buf
-      fits = omega (arith, d.place, length_more f xs i z (omega arith), length_fewer f xs (i + 1) n (omega arith))
+    fits : next + length (f (get_or xs i z)) ≤ length buf
+    fits = omega (arith, all_room, d.place, length_more f xs i z (omega arith), length_fewer f xs (i + 1) (length xs) (omega arith))
 
-      pub done_room : next + length (f (get_or xs i z)) ≤ length out
-      done_room = rw (done_length d) fits
+    pub done_room : next + length (f (get_or xs i z)) ≤ length out
+    done_room = rw (d.bytes, over_length) fits
 
-      pub done_more : (next' : ℕ) (out' : List ℕ) → next' ≡ next + length (f (get_or xs i z)) → out' ≡ over next (f (get_or xs i z)) out → Done f xs at buf (i + 1) next' out'
-      done_more next' out' p b = record {
-        place = omega (arith, d.place, length_more f xs i z (omega arith));
-        bytes = rw (each_more f xs i z (omega arith)) (further at next _ _ buf out out' d.bytes b d.place fits);
-      }
+    pub done_more : (next' : ℕ) (out' : List ℕ) → next' ≡ next + length (f (get_or xs i z)) → out' ≡ over next (f (get_or xs i z)) out → Done f xs at buf (i + 1) next' out'
+    done_more next' out' p b = record {
+      place = omega (arith, d.place, length_more f xs i z (omega arith));
+      bytes = rw (each_more f xs i z (omega arith)) (further at next _ _ buf out out' d.bytes b d.place fits);
+    }
+
+  pub done_all : {i next : ℕ} {out : List ℕ} → length xs ≤ i → Done f xs at buf i next out → (next ≡ at + length (each f xs)) × (out ≡ over at (each f xs) buf)
+  done_all {i} h d =
+      let e = take_all i xs h in
+      (rw e at d.place, rw e at d.bytes)
 
 -- LENGTHS
 
@@ -73,10 +74,10 @@ pub server_parts : (s : Server) → length (server_bytes s) ≡ head_size + leng
 unfolding server_bytes
 server_parts s = rw (length-append, head_length s)
 
-pub server_length : (s : Server) → s.count ≤ length s.tasks → length (server_bytes s) ≡ head_size + task_size * s.count
-server_length s h =
+pub server_length : (s : Server) → length (server_bytes s) ≡ head_size + task_size * length (take s.count s.tasks)
+server_length s =
     let ts = take s.count s.tasks in
-    rw (server_parts s, each_length task_bytes task_size ts (sizes_of task_bytes task_size task_length ts), length-take-le s.count s.tasks h)
+    rw (server_parts s, each_length task_bytes task_size ts (sizes_of task_bytes task_size task_length ts))
 
 pub table_length : (t : Table) → length (bytes_of t) ≡ 4 + length (record_bytes t)
 unfolding bytes_of
@@ -84,19 +85,27 @@ table_length t = omega arith
 
 -- A TABLE
 
--- a server of which the writer knows how many bytes it takes
-pub record Fit (s : Server) : Type 0 where
-  pub count : s.count ≤ entries
-  pub size : length (server_bytes s) ≡ head_size + task_size * s.count
+used_good : {A : Type 0} (P : A → Type 0) (good none : A → Bool) → ((x : A) → good x ≡ true → P x) → (xs : List A) (n : ℕ) → usedb good none xs n ≡ true → All P (take n xs)
+used_good P good none g xs zero h = tt
+used_good P good none g [] (suc n) h = tt
+used_good P good none g (x ∷ xs) (suc n) h = (g x (both_left _ _ h), used_good P good none g xs n (both_right (good x) _ h))
 
--- a sound table has no more servers than entries, and each in use is fit
-module _ (D W : ℕ) (t : Table) (full : Sized t) (sound : tableb D W t ≡ true) where
+-- a server that has no more tasks in use than entries
+abbrev pub Fit : Server → Type 0
+Fit s = s.count ≤ entries
+
+-- a sound table has no more servers in use than entries, and each is fit
+module _ (D W : ℕ) (t : Table) (sound : tableb D W t ≡ true) where
   pub used_most : t.count ≤ entries
-  used_most = ((table_sound D W t full).0 sound).count.high
+  unfolding tableb
+  used_most = leb-true t.count entries (both_right (leb 1 t.count) _ (both_left _ _ sound))
 
-  pub used_fit : (i : ℕ) → i < t.count → Fit (get_or t.servers i past_server)
-  used_fit i h =
-      let few = used_most in
-      let same = get_or_inside t.servers i past_server zero_server (omega (arith, full.servers)) in
-      let count = (((table_sound D W t full).0 sound).used i h).count in
-      rw same record { count = count; size = server_length _ (omega (arith, full.tasks i (omega arith))) }
+  pub used_fit : All Fit (take t.count t.servers)
+  unfolding tableb
+  used_fit = used_good Fit (serverb D W) zero_serverb count_fits t.servers t.count (both_right (rangeb 1 entries t.count) _ sound)
+    where
+      count_fits : (s : Server) → serverb D W s ≡ true → Fit s
+      count_fits s e =
+          let a = both_right (kindb s.kind) _ e in
+          let b = both_right (rangeb 1 D s.period.0) _ a in
+          leb-true s.count entries (both_left _ _ (both_right (rangeb 1 s.period.0 s.budget.0) _ b))

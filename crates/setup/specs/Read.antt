@@ -1,11 +1,13 @@
 -- The setup reader: every test of document 01 in its order, each with its place; the first that holds is the refusal. "Setup: 1 to 4, then records in
 -- file order, each whole (5) before its fields in file order, then 13." D is the longest period and offset, W the most work.
-use Rattle.std.specs.Prelude.{Bool, not, List, [], ◌∷◌, ◌++◌, ℕ, zero, suc, ◌+◌, ◌*◌, leb, ltb, eqb, length, drop}
+use Rattle.std.specs.Prelude.{Result, Ok, Err, Bool, not, List, [], ◌∷◌, ◌++◌, ℕ, zero, suc, ◌+◌, ◌*◌, leb, ltb, eqb, length, drop}
 use Rattle.small.specs.Small.{pick, padded}
 use Rattle.refusal.specs.Numbers.{setup_short, length_differs, setup_version, server_count, bytes_left}
 use Rattle.refusal.specs.Numbers.{record_cut, server_kind, task_count, period_range, budget_range, release_kind, work_range, release_times}
 use Rattle.refusal.specs.Refusal.{none, Check, check, check_at, first_of}
+use Rattle.refusal.specs.Reason.{refusal_at}
 use Rattle.refusal.specs.declared.Refusal.{Refusal}
+use Rattle.refusal.specs.declared.Fault.{Fault}
 use Rattle.field.specs.Field.{byte_of, field_of}
 use Rattle.table.specs.Limits.{entries}
 use Rattle.table.specs.Table.{ticks, served, zero_task, zero_server, zero_table}
@@ -15,7 +17,11 @@ use Rattle.table.specs.declared.Release.TheVariants.{OnArrival, Periodic}
 use Rattle.table.specs.declared.Task.{Task}
 use Rattle.table.specs.declared.Server.{Server}
 use Rattle.table.specs.declared.Table.{Table}
-use Rattle.setup.specs.declared.Reading.{Reading}
+
+-- the table that a setup gives, or why it gives none: then the table is all zero
+pub record Reading : Type 0 where
+  pub table : Table
+  pub refusal : Refusal
 
 -- A TASK'S RECORD, which begins at place k; bs are the bytes from there on
 
@@ -119,6 +125,11 @@ table_of bs = record { servers = padded zero_server entries (servers_of (byte_of
 
 abbrev pub read_with : Refusal → Table → Reading
 read_with r t = record { table = t; refusal = r }
+
+-- what a reader's outcome is as a reading: a refused one hands back a table of zeros
+abbrev pub reading_by : Result Table Fault → Reading
+reading_by (Ok t) = read_with none t
+reading_by (Err f) = read_with (refusal_at f) zero_table
 
 -- a refused reader hands back a table of zeros
 unfoldable pub read_of : ℕ → ℕ → List ℕ → Reading

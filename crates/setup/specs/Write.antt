@@ -3,8 +3,7 @@ use Rattle.std.specs.Prelude.{not, List, [], ◌∷◌, ℕ, ltb, length}
 use Rattle.refusal.specs.Numbers.{unsound, buffer_short}
 use Rattle.refusal.specs.Refusal.{Check, check, first_of}
 use Rattle.refusal.specs.declared.Refusal.{Refusal}
-use Rattle.field.specs.declared.Written.{Written}
-use Rattle.field.specs.Write.{buffer_after, written}
+use Rattle.field.specs.Write.{Written, buffer_after, written}
 use Rattle.table.specs.Sound.{tableb}
 use Rattle.table.specs.declared.Table.{Table}
 use Rattle.setup.specs.Layout.{bytes_of}

@@ -1,31 +1,28 @@
 // The reader and the writer of the setup file: document 01, "Files and messages".
 #![tactic(auto)]
 
-ghost use Rattle.std.specs.Prelude.{◌≡◌, true, leb, eqb, ◌+◌, ◌≤◌, length, drop, take};
-ghost use Rattle.small.specs.Small.{pick, each};
-ghost use Rattle.refusal.specs.Refusal.{first_of, refused};
-ghost use Rattle.field.specs.Field.{over};
-ghost use Rattle.field.specs.Write.{written};
+ghost use Rattle.std.specs.Prelude.{◌≡◌, ℕ, List, true, ltb, not, eqb, ◌++◌, ◌+◌, ◌≤◌, ◌<◌, length, drop, take, ⊤, OnOk, IfOk};
+ghost use Rattle.small.specs.Small.{pick, each, padded, All};
+ghost use Rattle.refusal.specs.Numbers.{record_cut};
+ghost use Rattle.refusal.specs.Refusal.{none, first_of, refused, Check};
+ghost use Rattle.refusal.proofs.Exactly.{Numbered};
+ghost use Rattle.refusal.specs.Reason.{number_of, fault_in};
+ghost use Rattle.field.specs.Field.{byte_of, field_of, big, over};
+ghost use Rattle.field.specs.Write.{written, written_by};
 ghost use Rattle.queue.specs.Limits.{longest};
 ghost use Rattle.table.specs.Limits.{most_work, entries};
-ghost use Rattle.table.specs.Table.{zero_server, zero_table};
+ghost use Rattle.table.specs.Table.{zero_task, zero_server};
 ghost use Rattle.table.specs.Sound.{rangeb, tableb};
 ghost use Rattle.setup.specs.Layout.{task_bytes, server_bytes, record_bytes, bytes_of};
-ghost use Rattle.setup.specs.Read.{task_checks, task_of, head_checks, start_checks, read_with, read_of};
+ghost use Rattle.setup.specs.Read.{task_size, task_checks, task_of, head_size, head_checks, server_checks, server_of, server_size, start_checks, reading_by, read_of};
 ghost use Rattle.setup.specs.Write.{write_refusal, written_to};
-ghost use Rattle.setup.specs.Moves.{tasks_read_of, server_with, server_read_of, servers_read_of};
+ghost use Rattle.setup.specs.Moves.{head_of, all_checks, all_given, all_size, task_numbered, server_numbered};
 
-use field::Written;
+use field::Field;
 use queue::{Distance, Queue};
-use refusal::Refusal;
-use table::{Release, Served, Server, Table, Task};
-
-// The table that a setup gives, or why it gives none: then the table is all zero.
-#[derive(Clone, Copy)]
-pub struct Reading {
-    pub table: Table,
-    pub refusal: Refusal,
-}
+use refusal::{Fault, Reason};
+use std::ops::RangeInclusive;
+use table::{Kind, Part, Release, Served, Server, Table, Task};
 
 const VERSION: u8 = 1;
 
@@ -38,363 +35,330 @@ const TASK: usize = 13;
 
 // READING
 
-pub fn read(s: &[u8]) -> Reading
-    ensures { result ≡ read_of longest most_work s.now }
+pub fn read(s: &[u8]) -> Result<Table, Fault>
+    ensures { reading_by result ≡ read_of longest most_work s.now }
 {
-    let start = start_refusal(s);
-    if start.number != 0 {
-        return refuse(start);
+    let mut r = Reader { rest: s, at: 0 };
+    let count = r.start()?;
+    let servers = r.records(count)?;
+    if !r.rest.is_empty() {
+        return Err(Reason::BytesLeft.at(r.at));
     }
-    let n = field::byte(s, 0, 3) as usize;
-    let r = read_servers(s, n);
-    let body = r.refusal;
-    if body.number != 0 {
-        return refuse(body);
-    }
-    if r.next < s.len() {
-        return refuse(at(Refusal::BYTES_LEFT, r.next));
-    }
-    let servers = r.servers;
-    Reading {
-        table: Table {
-            servers: servers,
-            count: n,
-        },
-        refusal: Refusal::none(),
-    }
+    Ok(Table { servers, count })
 }
 
-fn refuse(r: Refusal) -> Reading
-    ensures { result ≡ read_with r zero_table }
-{
-    Reading {
-        table: Table::zero(),
-        refusal: r,
-    }
+/// What is left to read of a setup, and its place.
+#[derive(Drop)]
+struct Reader<'a> {
+    rest: &'a [u8],
+    at: usize,
+    ghost fits: { at + length rest.now < 18446744073709551616 },
 }
 
-// Refused with a number at a place.
-fn at(number: u8, place: usize) -> Refusal
-    ensures { result ≡ refused number place }
-{
-    Refusal {
-        number: number,
-        place: place,
-    }
-}
-
-fn start_refusal(s: &[u8]) -> Refusal
-    ensures { result ≡ first_of (start_checks s.now) }
-{
-    if s.len() < START {
-        return at(Refusal::SETUP_SHORT, 0);
-    }
-    let stated = field::two(s, 0, 0) as usize;
-    if stated != s.len() {
-        return at(Refusal::LENGTH_DIFFERS, 0);
-    }
-    if field::byte(s, 0, 2) != VERSION {
-        return at(Refusal::SETUP_VERSION, 2);
-    }
-    let n = field::byte(s, 0, 3) as usize;
-    if n == 0 {
-        return at(Refusal::SERVER_COUNT, 3);
-    }
-    if Table::ENTRIES < n {
-        return at(Refusal::SERVER_COUNT, 3);
-    }
-    Refusal::none()
-}
-
-// Servers' records: the refusal, or the servers and the place behind them.
-#[derive(Clone, Copy)]
-struct ServersRead {
-    servers: [Server; Table::ENTRIES],
-    refusal: Refusal,
-    next: usize,
-}
-
-fn read_servers(s: &[u8], n: usize) -> ServersRead
-    requires { (n ≤ entries) × (4 ≤ length s.now) × (length s.now ≤ 65535) }
-    ensures { result ≡ servers_read_of longest most_work n 4 (drop 4 s.now) }
-{
-    let mut servers = [Server::zero(); Table::ENTRIES];
-    let mut next = START;
-    let mut i: usize = 0;
-    while i < n {
-        let r = read_server(s, next);
-        let refusal = r.refusal;
-        if refusal.number != 0 {
-            return ServersRead {
-                servers: [Server::zero(); Table::ENTRIES],
-                refusal: refusal,
-                next: 0,
-            };
+impl Reader<'_> {
+    /// The bytes before the first server: how many servers there are.
+    #[tactic(auto, unfolding(crate::specs::Read::start_checks))]
+    fn start(&mut self) -> Result<usize, Fault>
+        requires { self.old.at ≡ 0 }
+        ensures refusal { fault_in result ≡ first_of (start_checks self.old.rest.now) }
+        ensures value { IfOk result (λ n. n ≡ byte_of 3 self.old.rest.now) }
+        ensures at { OnOk result (self.new.at ≡ 4) }
+        ensures rest { OnOk result (self.new.rest.now ≡ drop 4 self.old.rest.now) }
+    {
+        let length = self.rest.len();
+        if length < START {
+            return Err(Reason::SetupShort.at(0));
         }
-        let server = r.server;
-        servers[i] = server;
-        next = r.next;
-        i = i + 1;
-    }
-    ServersRead {
-        servers: servers,
-        refusal: Refusal::none(),
-        next: next,
-    }
-}
-
-#[derive(Clone, Copy)]
-struct ServerRead {
-    server: Server,
-    refusal: Refusal,
-    next: usize,
-}
-
-fn refuse_server(r: Refusal) -> ServerRead
-    ensures { result ≡ server_with r zero_server 0 }
-{
-    ServerRead {
-        server: Server::zero(),
-        refusal: r,
-        next: 0,
-    }
-}
-
-fn read_server(s: &[u8], k: usize) -> ServerRead
-    requires { (k ≤ length s.now) × (length s.now ≤ 65535) }
-    ensures { result ≡ server_read_of longest most_work k (drop k s.now) }
-{
-    let head = head_refusal(s, k);
-    if head.number != 0 {
-        return refuse_server(head);
-    }
-    let n = field::byte(s, k, 1) as usize;
-    let r = read_tasks(s, k + HEAD, n);
-    let body = r.refusal;
-    if body.number != 0 {
-        return refuse_server(body);
-    }
-    let tasks = r.tasks;
-    ServerRead {
-        server: Server {
-            tasks: tasks,
-            count: n,
-            kind: field::byte(s, k, 0),
-            period: Distance(field::four(s, k, 2)),
-            budget: Served(field::four(s, k, 6)),
-        },
-        refusal: Refusal::none(),
-        next: r.next,
-    }
-}
-
-fn head_refusal(s: &[u8], k: usize) -> Refusal
-    requires { (k ≤ length s.now) × (length s.now ≤ 65535) }
-    ensures { result ≡ first_of (head_checks longest k (drop k s.now)) }
-{
-    if s.len() - k < HEAD {
-        return at(Refusal::RECORD_CUT, k);
-    }
-    if !table::known_kind(field::byte(s, k, 0)) {
-        return at(Refusal::SERVER_KIND, k);
-    }
-    let n = field::byte(s, k, 1) as usize;
-    if Table::ENTRIES < n {
-        return at(Refusal::TASK_COUNT, k + 1);
-    }
-    let period = field::four(s, k, 2);
-    if !table::in_range(period, 1, Queue::LONGEST) {
-        return at(Refusal::PERIOD_RANGE, k + 2);
-    }
-    if !table::in_range(field::four(s, k, 6), 1, period) {
-        return at(Refusal::BUDGET_RANGE, k + 6);
-    }
-    Refusal::none()
-}
-
-#[derive(Clone, Copy)]
-struct TasksRead {
-    tasks: [Task; Table::ENTRIES],
-    refusal: Refusal,
-    next: usize,
-}
-
-fn read_tasks(s: &[u8], k: usize, n: usize) -> TasksRead
-    requires { (n ≤ entries) × (k ≤ length s.now) × (length s.now ≤ 65535) }
-    ensures { result ≡ tasks_read_of longest most_work n k (drop k s.now) }
-{
-    let mut tasks = [Task::zero(); Table::ENTRIES];
-    let mut next = k;
-    let mut i: usize = 0;
-    while i < n {
-        let refusal = task_refusal(s, next);
-        if refusal.number != 0 {
-            return TasksRead {
-                tasks: [Task::zero(); Table::ENTRIES],
-                refusal: refusal,
-                next: 0,
-            };
+        if usize::from(self.take::<u16>()) != length {
+            return Err(Reason::LengthDiffers.at(0));
         }
-        tasks[i] = task_at(s, next);
-        next = next + TASK;
-        i = i + 1;
+        if self.take::<u8>() != VERSION {
+            return Err(Reason::SetupVersion.at(2));
+        }
+        let count = self.number::<u8>(1, Table::ENTRIES as u32, Reason::ServerCount)?;
+        Ok(count as usize)
     }
-    TasksRead {
-        tasks: tasks,
-        refusal: Refusal::none(),
-        next: next,
+
+    /// A server before its tasks.
+    #[tactic(auto, unfolding(crate::specs::Read::head_checks))]
+    fn head(&mut self) -> Result<Server, Fault>
+        ensures refusal { fault_in result ≡ first_of (head_checks longest self.old.at self.old.rest.now) }
+        ensures value { IfOk result (λ s. s ≡ head_of self.old.rest.now) }
+        ensures at { OnOk result (self.new.at ≡ self.old.at + head_size) }
+        ensures rest { OnOk result (self.new.rest.now ≡ drop head_size self.old.rest.now) }
+    {
+        let place = self.at;
+        self.whole(HEAD)?;
+        let kind = Kind::try_from(self.take::<u8>()).map_err(|reason| reason.at(place))?;
+        let count = self.number::<u8>(0, Table::ENTRIES as u32, Reason::TaskCount)?;
+        let period = self.number::<u32>(1, Queue::LONGEST, Reason::PeriodRange)?;
+        let budget = self.number::<u32>(1, period, Reason::BudgetRange)?;
+        Ok(Server {
+            tasks: [Task::zero(); Table::ENTRIES],
+            count: count as usize,
+            kind: kind.number(),
+            period: Distance(period),
+            budget: Served(budget),
+        })
+    }
+
+    /// Refused here where fewer bytes are left than a record has.
+    fn whole(&self, size: usize) -> Result<(), Fault>
+        ensures { fault_in result ≡ pick (ltb (length self.now.rest.now) size) (refused record_cut self.now.at) none }
+    {
+        if self.rest.len() < size {
+            return Err(Reason::RecordCut.at(self.at));
+        }
+        Ok(())
+    }
+
+    /// The next field.
+    fn take<T: Field>(&mut self) -> T
+        requires { T.WIDTH ≤ length self.old.rest.now }
+        ensures value { T.value result ≡ field_of T.WIDTH self.old.rest.now }
+        ensures at { self.new.at ≡ self.old.at + T.WIDTH }
+        ensures rest { self.new.rest.now ≡ drop T.WIDTH self.old.rest.now }
+    {
+        let n = field::read(self.rest, 0);
+        self.rest = &self.rest[T::WIDTH..];
+        self.at = self.at + T::WIDTH;
+        n
+    }
+
+    /// The next field, refused at its place where its number is out of a range.
+    fn number<T: Field>(&mut self, least: u32, most: u32, reason: Reason) -> Result<u32, Fault>
+        requires { T.WIDTH ≤ length self.old.rest.now }
+        ensures refusal { fault_in result ≡ pick (not (rangeb least most (field_of T.WIDTH self.old.rest.now))) (refused (number_of reason) self.old.at) none }
+        ensures value { IfOk result (λ n. n ≡ field_of T.WIDTH self.old.rest.now) }
+        ensures at { self.new.at ≡ self.old.at + T.WIDTH }
+        ensures rest { self.new.rest.now ≡ drop T.WIDTH self.old.rest.now }
+    {
+        let place = self.at;
+        let n = self.take::<T>().wide();
+        if n < least || most < n {
+            return Err(reason.at(place));
+        }
+        Ok(n)
     }
 }
 
-fn task_refusal(s: &[u8], k: usize) -> Refusal
-    requires { (k ≤ length s.now) × (length s.now ≤ 65535) }
-    ensures { result ≡ first_of (task_checks longest most_work k (drop k s.now)) }
-{
-    if s.len() - k < TASK {
-        return at(Refusal::RECORD_CUT, k);
-    }
-    let release = field::byte(s, k, 0);
-    if 1 < release {
-        return at(Refusal::RELEASE_KIND, k);
-    }
-    if !table::in_range(field::four(s, k, 1), 1, Table::MOST_WORK) {
-        return at(Refusal::WORK_RANGE, k + 1);
-    }
-    if !period_fits(release, field::four(s, k, 5)) {
-        return at(Refusal::RELEASE_TIMES, k + 5);
-    }
-    if !offset_fits(release, field::four(s, k, 9)) {
-        return at(Refusal::RELEASE_TIMES, k + 9);
-    }
-    Refusal::none()
+/// What a setup has many of, one behind the other: servers, and the tasks of a server.
+trait Record: Copy {
+    ghost checks: { ℕ → List ℕ → List Check };
+
+    ghost gives: { List ℕ → Self };
+
+    ghost span: { List ℕ → ℕ };
+
+    ghost empty: { Self };
+
+    ghost bytes: { Self → List ℕ };
+
+    ghost fit: { Self → Type 0 };
+
+    fn zero() -> Self
+        ensures { result ≡ empty };
+
+    fn read(r: &mut Reader) -> Result<Self, Fault>
+        ensures refusal { fault_in result ≡ first_of (checks r.old.at r.old.rest.now) }
+        ensures value { IfOk result (λ x. x ≡ gives r.old.rest.now) }
+        ensures at { OnOk result (r.new.at ≡ r.old.at + span r.old.rest.now) }
+        ensures rest { OnOk result (r.new.rest.now ≡ drop (span r.old.rest.now) r.old.rest.now) };
+
+    fn write(&self, w: &mut Writer)
+        requires fit { fit self.now }
+        requires room { w.old.at + length (bytes self.now) ≤ length w.old.out.now }
+        ensures same { w.new.out.ghost_name ≡ w.old.out.ghost_name }
+        ensures room { length w.new.out.now ≡ length w.old.out.now }
+        ensures at { w.new.at ≡ w.old.at + length (bytes self.now) }
+        ensures bytes { w.new.out.now ≡ over w.old.at (bytes self.now) w.old.out.now };
+
+    ghost all_numbered: { (k : ℕ) (bs : List ℕ) → Numbered (checks k bs) };
 }
 
-// On arrival T is 0; a periodic task's is 1 to the longest distance.
-fn period_fits(release: u8, period: u32) -> bool
-    ensures { result ≡ pick (eqb release 0) (eqb period 0) (rangeb 1 longest period) }
-{
-    if release == 0 {
-        return period == 0;
+impl Reader<'_> {
+    /// So many records; the others of the array are zero.
+    fn records<R: Record>(&mut self, n: usize) -> Result<[R; Table::ENTRIES], Fault>
+        requires { n ≤ entries }
+        ensures refusal { fault_in result ≡ first_of (all_checks R.checks R.span n self.old.at self.old.rest.now) }
+        ensures value { IfOk result (λ xs. xs ≡ padded R.empty entries (all_given R.gives R.span n self.old.rest.now)) }
+        ensures at { OnOk result (self.new.at ≡ self.old.at + all_size R.span n self.old.rest.now) }
+        ensures rest { OnOk result (self.new.rest.now ≡ drop (all_size R.span n self.old.rest.now) self.old.rest.now) }
+    {
+        let mut all = [R::zero(); Table::ENTRIES];
+        for i in 0..n {
+            all[i] = R::read(self)?;
+        }
+        Ok(all)
     }
-    table::in_range(period, 1, Queue::LONGEST)
 }
 
-// On arrival O is 0; a periodic task's is at most the longest distance.
-fn offset_fits(release: u8, offset: u32) -> bool
-    ensures { result ≡ pick (eqb release 0) (eqb offset 0) (leb offset longest) }
-{
-    if release == 0 {
-        return offset == 0;
-    }
-    offset <= Queue::LONGEST
-}
+impl Record for Task {
+    ghost checks = { task_checks longest most_work };
 
-fn task_at(s: &[u8], k: usize) -> Task
-    ensures { result ≡ task_of (drop k s.now) }
-{
-    let work = field::four(s, k, 1);
-    if field::byte(s, k, 0) == 0 {
-        return Task {
-            work: Served(work),
-            release: Release::OnArrival,
+    ghost gives = { task_of };
+
+    ghost span = { λ bs. task_size };
+
+    ghost empty = { zero_task };
+
+    ghost bytes = { task_bytes };
+
+    ghost fit = { λ t. ⊤ };
+
+    ghost all_numbered = { task_numbered longest most_work };
+
+    fn zero() -> Task {
+        Task::zero()
+    }
+
+    #[tactic(auto, unfolding(crate::specs::Read::task_checks, crate::specs::Read::task_of))]
+    fn read(r: &mut Reader) -> Result<Task, Fault> {
+        r.whole(TASK)?;
+        let release = r.number::<u8>(0, 1, Reason::ReleaseKind)?;
+        let work = r.number::<u32>(1, Table::MOST_WORK, Reason::WorkRange)?;
+        // On arrival T and O are 0.
+        let (least, most) = if release == 0 {
+            (0, 0)
+        } else {
+            (1, Queue::LONGEST)
         };
+        let period = r.number::<u32>(least, most, Reason::ReleaseTimes)?;
+        let offset = r.number::<u32>(0, most, Reason::ReleaseTimes)?;
+        let release = if release == 0 {
+            Release::OnArrival
+        } else {
+            Release::Periodic {
+                period: Distance(period),
+                offset: Distance(offset),
+            }
+        };
+        Ok(Task {
+            work: Served(work),
+            release,
+        })
     }
-    Task {
-        work: Served(work),
-        release: Release::Periodic {
-            period: Distance(field::four(s, k, 5)),
-            offset: Distance(field::four(s, k, 9)),
-        },
+
+    #[tactic(auto, unfolding(crate::specs::Layout::task_bytes))]
+    fn write(&self, w: &mut Writer) {
+        w.put(self.release.number());
+        w.put(self.work.0);
+        w.put(self.release.period().0);
+        w.put(self.release.offset().0);
+    }
+}
+
+impl Record for Server {
+    ghost checks = { server_checks longest most_work };
+
+    ghost gives = { server_of };
+
+    ghost span = { server_size };
+
+    ghost empty = { zero_server };
+
+    ghost bytes = { server_bytes };
+
+    ghost fit = { λ s. s.count ≤ entries };
+
+    ghost all_numbered = { server_numbered longest most_work };
+
+    fn zero() -> Server {
+        Server::zero()
+    }
+
+    fn read(r: &mut Reader) -> Result<Server, Fault> {
+        let mut server = r.head()?;
+        server.tasks = r.records(server.count)?;
+        Ok(server)
+    }
+
+    #[tactic(auto, unfolding(crate::specs::Layout::server_bytes, crate::specs::Layout::head_bytes))]
+    fn write(&self, w: &mut Writer) {
+        w.put(self.kind);
+        w.put(self.count as u8);
+        w.put(self.period.0);
+        w.put(self.budget.0);
+        w.records(&self.tasks[..self.count]);
     }
 }
 
 // WRITING
 
-// Writes the table's bytes at the start of a lent buffer.
-pub fn write(t: Table, out: &mut [u8]) -> Written
-    ensures answer { result ≡ written (write_refusal longest most_work t (length out.old)) (bytes_of t) }
-    ensures buffer { out.new ≡ written_to longest most_work t out.old }
+/// Writes the table's bytes at the start of a lent buffer.
+pub fn write(t: &Table, out: &mut [u8]) -> Result<usize, Reason>
+    ensures answer { written_by result ≡ written (write_refusal longest most_work t.now (length out.old)) (bytes_of t.now) }
+    ensures buffer { out.new ≡ written_to longest most_work t.now out.old }
 {
-    if !table::sound(t) {
-        return Written::refused(Refusal::UNSOUND);
+    if !t.is_sound() {
+        return Err(Reason::Unsound);
     }
-    let n = size_of(t);
-    if out.len() < n {
-        return Written::refused(Refusal::BUFFER_SHORT);
+    let size = size_of(t);
+    if out.len() < size {
+        return Err(Reason::BufferShort);
     }
-    field::put_two(out, 0, n as u16);
-    field::put_byte(out, 2, VERSION);
-    field::put_byte(out, 3, t.count as u8);
-    put_servers(out, t);
-    Written::whole(n)
+    let mut w = Writer { out, at: 0 };
+    w.table(t, size as u16);
+    Ok(size)
 }
 
-// How many bytes the table takes.
-fn size_of(t: Table) -> usize
-    requires { tableb longest most_work t ≡ true }
-    ensures { (result ≡ length (bytes_of t)) × (result ≤ 916) }
+/// How many bytes the table takes.
+fn size_of(t: &Table) -> usize
+    requires { tableb longest most_work t.now ≡ true }
+    ensures { (result ≡ length (bytes_of t.now)) × (result ≤ 916) }
 {
-    let n = t.count;
     let mut size = START;
-    let mut i: usize = 0;
-    while i < n {
-        let s = t.servers[i];
-        size = size + HEAD + TASK * s.count;
-        i = i + 1;
+    for s in &t.servers[..t.count] {
+        size = size + HEAD + TASK * s.tasks[..s.count].len();
     }
     size
 }
 
-fn put_servers(out: &mut [u8], t: Table)
-    requires { (tableb longest most_work t ≡ true) × (4 + length (record_bytes t) ≤ length out.old) }
-    ensures { out.new ≡ over 4 (record_bytes t) out.old }
-{
-    let n = t.count;
-    let mut at = START;
-    let mut i: usize = 0;
-    while i < n {
-        let s = t.servers[i];
-        put_server(out, at, s);
-        at = at + HEAD + TASK * s.count;
-        i = i + 1;
+/// Where a setup is written, and the place of the next byte.
+#[derive(Drop)]
+struct Writer<'a> {
+    out: &'a mut [u8],
+    at: usize,
+}
+
+impl Writer<'_> {
+    /// The next field.
+    fn put<T: Field>(&mut self, n: T)
+        requires { self.old.at + T.WIDTH ≤ length self.old.out.now }
+        ensures same { self.new.out.ghost_name ≡ self.old.out.ghost_name }
+        ensures room { length self.new.out.now ≡ length self.old.out.now }
+        ensures at { self.new.at ≡ self.old.at + T.WIDTH }
+        ensures bytes { self.new.out.now ≡ over self.old.at (big T.WIDTH (T.value n)) self.old.out.now }
+    {
+        field::put(self.out, self.at, n);
+        self.at = self.at + T::WIDTH;
     }
-}
 
-fn put_server(out: &mut [u8], at: usize, s: Server)
-    requires { (s.count ≤ entries) × (at + length (server_bytes s) ≤ length out.old) }
-    ensures { out.new ≡ over at (server_bytes s) out.old }
-{
-    let period = s.period;
-    let budget = s.budget;
-    field::put_byte(out, at, s.kind);
-    field::put_byte(out, at + 1, s.count as u8);
-    field::put_four(out, at + 2, period.0);
-    field::put_four(out, at + 6, budget.0);
-    put_tasks(out, at + HEAD, s);
-}
-
-fn put_tasks(out: &mut [u8], at: usize, s: Server)
-    requires { (s.count ≤ entries) × (at + length (each task_bytes (take s.count s.tasks)) ≤ length out.old) }
-    ensures { out.new ≡ over at (each task_bytes (take s.count s.tasks)) out.old }
-{
-    let n = s.count;
-    let mut next = at;
-    let mut i: usize = 0;
-    while i < n {
-        put_task(out, next, s.tasks[i]);
-        next = next + TASK;
-        i = i + 1;
+    /// A table, from its length on.
+    fn table(&mut self, t: &Table, size: u16)
+        requires sound { tableb longest most_work t.now ≡ true }
+        requires size { size ≡ length (bytes_of t.now) }
+        requires room { self.old.at + size ≤ length self.old.out.now }
+        ensures same { self.new.out.ghost_name ≡ self.old.out.ghost_name }
+        ensures bytes { self.new.out.now ≡ over self.old.at (bytes_of t.now) self.old.out.now }
+    {
+        self.put(size);
+        self.put(VERSION);
+        self.put(t.count as u8);
+        self.records(&t.servers[..t.count]);
     }
-}
 
-fn put_task(out: &mut [u8], at: usize, t: Task)
-    requires { at + length (task_bytes t) ≤ length out.old }
-    ensures { out.new ≡ over at (task_bytes t) out.old }
-{
-    let work = t.work;
-    let r = t.release;
-    field::put_byte(out, at, table::release_number(r));
-    field::put_four(out, at + 1, work.0);
-    field::put_four(out, at + 5, table::period_of(r).0);
-    field::put_four(out, at + 9, table::offset_of(r).0);
+    /// Records, one behind the other.
+    fn records<R: Record>(&mut self, records: &[R])
+        requires fit { All R.fit records.now }
+        requires room { self.old.at + length (each R.bytes records.now) ≤ length self.old.out.now }
+        ensures same { self.new.out.ghost_name ≡ self.old.out.ghost_name }
+        ensures room { length self.new.out.now ≡ length self.old.out.now }
+        ensures at { self.new.at ≡ self.old.at + length (each R.bytes records.now) }
+        ensures bytes { self.new.out.now ≡ over self.old.at (each R.bytes records.now) self.old.out.now }
+    {
+        for r in records {
+            r.write(self);
+        }
+    }
 }

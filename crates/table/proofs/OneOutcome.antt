@@ -1,6 +1,9 @@
 -- ONE OUTCOME: any two outcomes that a public function's contract allows are equal. Stated over the contracts themselves: `f.Post κs a r e` is what the
 -- contract of `f` says of the arguments a, the result r and the parameters e as they are at exit. Assumes nothing.
+use mathlib.Core.Path.{◌≡◌}
+use Rattle.std.specs.Prelude.{Bool, ℕ}
 use Rattle.small.proofs.Outcome.{One, same}
+use Rattle.table.specs.Sound.{rangeb}
 use mir.Syntax.{Dict}
 use denote.RattleType.{RattleType}
 use denote.Param.Laws.{Laws}
@@ -71,3 +74,7 @@ zero_task_one κs a x y e f p q = same p q
 -- over any type of entries T
 pub in_use_one : (T : RattleType) (laws : Laws T) (part : Ghosts T.Denot) (dict : Dict) → One (in-use.Post T laws part dict) (λ κs x e. x)
 in_use_one T laws part dict κs a x y e f p q = same p q
+
+-- the same of a test of a range, by what it says: the code has the library's, (least..=most).contains(&x)
+pub in_range_one : (x least most : ℕ) (a b : Bool) → a ≡ rangeb least most x → b ≡ rangeb least most x → a ≡ b
+in_range_one x least most a b p q = same p q

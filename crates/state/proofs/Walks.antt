@@ -1,19 +1,15 @@
 -- What a walk over the places of a table gives: the test of each entry with its server, and the reaches of all. Assumes nothing.
 use mathlib.Core.Path.{◌≡◌, refl, ap, ◌∙◌}
-use mathlib.Core.Bool.{Bool, true, false}
+use mathlib.Core.Bool.{Bool}
 use mathlib.Core.List.{List, [], ◌∷◌, map}
 use Prim.Native.Nat.{ℕ}
-use Rattle.std.specs.Prelude.{◌&&◌}
 use Rattle.std.specs.List.{list_all, zip}
 use Rattle.small.specs.Small.{both}
+use Rattle.table.proofs.Used.{both_and}
 use Rattle.table.specs.declared.Task.{Task}
 use Rattle.table.specs.declared.Server.{Server}
 use Rattle.state.specs.Sound.{task_reach, server_reach, task_reaches, server_reaches, eachb}
 use Rattle.state.specs.declared.Entry.{Entry}
-
-both_and : (a b : Bool) → a && b ≡ both a b
-both_and true b = refl
-both_and false b = refl
 
 pub each_walked : (p : Server → Entry → Bool) (ss : List Server) (es : List Entry) → list_all (λ (x : Server × Entry). p x.0 x.1) (zip ss es) ≡ eachb p ss es
 each_walked p [] es = refl

@@ -179,6 +179,7 @@ impl Entry {
     }
 
     /// Whether work is pending in some task.
+    #[tactic(auto, using(crate::proofs::Choosing::some_placed))]
     fn has_work(&self) -> bool
         ensures { result ≡ some_pending self.now.loads }
     {

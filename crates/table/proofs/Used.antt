@@ -9,7 +9,8 @@ use Rattle.std.specs.List.{list_all}
 use Rattle.std.proofs.lemmas.List.{take_min, drop_min}
 use Rattle.small.specs.Small.{both, usedb}
 
-both_and : (a b : Bool) → a && b ≡ both a b
+-- the library's test of two and this one
+pub both_and : (a b : Bool) → a && b ≡ both a b
 both_and true b = refl
 both_and false b = refl
 

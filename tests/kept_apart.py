@@ -13,23 +13,27 @@ LINES = dict(line.split(":") for line in (ROOT / "crates.txt").read_text().split
 # what the program stands on, bottom to top as crates.txt has it
 CRATES = {crate: below for crate, below in LINES.items() if crate in LINES[ABOVE].split() + [ABOVE]}
 PROGRAM = """use queue::Queue;
+use state::State;
 use table::Server;
 use table::Table;
 
 fn main() {
     let s = Server::zero();
-    queue::insert(Queue::empty(), 0, s.period);
+    let mut q = Queue::empty();
+    let _ = q.insert(0, s.period);
     let reach = [s.period; Queue::HELD];
-    queue::holds(Queue::empty(), reach);
-    scheduler::tick(state::fresh(Table::zero()).state);
+    q.holds(&reach);
+    if let Ok(mut state) = State::fresh(&Table::zero()) {
+        let _ = scheduler::tick(&mut state);
+    }
 }
 """
 # the crate that is edited, what stands there, what is put there, the type that is due and the type that is handed over
 EDITS = (
-    ("program", "0, s.period", "0, s.budget", "Distance", "Served"),
-    ("program", "[s.period; Queue::HELD]", "[s.budget; Queue::HELD]", "[Distance; 8]", "[Served; 8]"),
-    ("state", "put_in(q, i as u8, s.period)", "put_in(q, i as u8, s.budget)", "Distance", "Served"),
-    ("scheduler", "again(next.arrivals, table::period_of(r))", "again(next.arrivals, t.work)", "Distance", "Served"),
+    ("program", "insert(0, s.period)", "insert(0, s.budget)", "Distance", "Served"),
+    ("program", "[s.period; Queue::HELD]", "[s.budget; Queue::HELD]", "&[Distance; 8]", "&[Served; 8]"),
+    ("state", "        self.period\n", "        self.budget\n", "Distance", "Served"),
+    ("scheduler", "again(t.release.period())", "again(t.work)", "Distance", "Served"),
     ("table", "period: Distance(0)", "period: Served(0)", "Distance", "Served"),
     ("table", "budget: Served(0)", "budget: Distance(0)", "Served", "Distance"),
 )

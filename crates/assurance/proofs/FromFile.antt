@@ -8,7 +8,7 @@ use Rattle.table.specs.Limits.{most_work}
 use Rattle.setup.specs.Read.{read_of}
 use Rattle.setup.proofs.RoundTrip.{accepted_sound}
 use Rattle.state.specs.Fresh.{fresh_of}
-use Rattle.state.specs.declared.Made.{Made}
+use Rattle.state.specs.Fresh.{Made}
 use Rattle.state.proofs.Laws.{fresh_made}
 use Rattle.assurance.specs.History.{Call, ticks_of, ticks_asked}
 use Rattle.assurance.specs.Demand3.{Demand3}

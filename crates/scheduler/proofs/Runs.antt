@@ -1,4 +1,5 @@
 -- Ticks in a row: the state and the answers behind k of them, and what one more gives. Assumes nothing.
+use mathlib.Core.Bool.{true}
 use mathlib.Core.Path.{◌≡◌, refl, sym, ap, ◌∙◌}
 use mathlib.Core.List.{List, [], ◌∷◌, ◌++◌}
 use Prim.Native.Nat.{ℕ, zero, suc, ◌+◌, ◌<◌}
@@ -8,22 +9,18 @@ use lib.ListN.{length, set}
 use Rattle.small.specs.Small.{padded}
 use Rattle.small.proofs.Padded.{padded_push}
 use Rattle.refusal.specs.Refusal.{none}
-use Rattle.queue.specs.declared.Queue.{Queue}
-use Rattle.table.specs.declared.Table.{Table}
+use Rattle.state.specs.Sound.{stateb}
 use Rattle.state.specs.Choice.{choice_of}
-use Rattle.state.specs.declared.Entry.{Entry}
 use Rattle.state.specs.declared.State.{State}
 use Rattle.state.specs.declared.Choice.TheVariants.{Idle}
 use Rattle.scheduler.specs.Tick.{state_after, handled_of, ticked_with, tick_of}
 use Rattle.scheduler.specs.Run.{batch_size, answer, answers_of, answers_in, state_after_ticks}
 use Rattle.scheduler.specs.Tick.{Ticked}
 use Rattle.scheduler.specs.declared.Answer.{Answer}
+use Rattle.scheduler.specs.Moves.{Ticking}
+use Rattle.scheduler.proofs.Keeps.{tick_sound}
+use Rattle.scheduler.proofs.KeptSizes.{tick_sized}
 use Rattle.scheduler.proofs.TickSound.{tick_accepts}
-use Rattle.scheduler.proofs.TickParts.{Ticking}
-
--- a state of its parts
-abbrev pub state_with : Table → List Entry → Queue → State
-state_with t es q = record { entries = es; table = t; refills = q }
 
 -- what one tick answers
 abbrev answer_of : State → Answer
@@ -53,10 +50,14 @@ answers_stored i s h =
     let pushed = padded_push (answer Idle 0) batch_size (answers_of i s) x (omega (arith, answers_length i s)) in
     rw add-one (there ∙ pushed ∙ ap (padded (answer Idle 0) batch_size) (sym (answers_more i s)))
 
+-- a state that ticks does so again
+pub tick_kept : (s : State) → Ticking s → Ticking (state_after s)
+tick_kept s k = record { sound = tick_sound s k.sound; sized = tick_sized s k.sized }
+
 -- one tick more of a state that is behind k of them
-module _ (k : ℕ) (s now : State) (t : Ticking now) (e : now ≡ state_after_ticks k s) where
+module _ (k : ℕ) (s now : State) (t : stateb now ≡ true) (e : now ≡ state_after_ticks k s) where
   ticked : tick_of (state_after_ticks k s) ≡ ticked_with none (choice_of now) (handled_of now) (state_after now)
-  ticked = ap tick_of (sym e) ∙ tick_accepts now t.sound
+  ticked = ap tick_of (sym e) ∙ tick_accepts now t
 
   pub state_next : state_after now ≡ state_after_ticks (k + 1) s
   state_next = sym (state_more k s ∙ ap (λ (x : Ticked). x.state) ticked)

@@ -1,56 +1,51 @@
--- A tick of a sound state, part by part, as a loop over the state's parts does it: the choice and the charge, and step 4 over the servers' queues, entry by
--- entry. Each law takes what the code reads and stores. Assumes nothing.
+-- A tick of a sound state, part by part: the choice and the charge, and step 4 over the servers' queues, entry by entry. Each law takes what the code reads and
+-- stores. Assumes nothing.
 use mathlib.Core.Path.{◌≡◌, refl, sym, ap, ◌∙◌}
-use mathlib.Core.Bool.{true, false}
+use mathlib.Core.Bool.{true}
 use mathlib.Core.List.{List, [], ◌∷◌, ◌++◌}
-use Prim.Native.Nat.{ℕ, zero, suc, ◌+◌, ◌-◌, ◌*◌, ◌≤◌, ◌<◌}
+use Prim.Native.Nat.{ℕ, zero, suc, ◌+◌, ◌*◌, ◌≤◌, ◌<◌}
 use native.Mathlib.Numerals.{add-one}
 use native.Mathlib.Omega.{arith}
-use lib.Dec.{ltb, eqb}
 use lib.ListN.{length, get_or, set, take, drop}
-use lib.Seq.{take-suc, take_all, set-get_or}
-use borrow.Author.Tests.{le-ltb}
+use lib.Seq.{take-suc, take_all}
+use borrow.Author.Tests.{le-ltb, lt-ltb, ltb-true}
+use Rattle.std.specs.Prelude.{Some, None}
 use Rattle.small.specs.Small.{alter, sum_below}
 use Rattle.small.proofs.Tests.{both_right}
 use Rattle.small.proofs.Altered.{set_alter, length_alter, alter_past}
 use Rattle.small.proofs.Lists.{get_or_inside, firsts, firsts_at, firsts_more, firsts_all}
-use Rattle.queue.specs.Limits.{max_gap, longest}
-use Rattle.queue.specs.Sound.{soundb}
-use Rattle.queue.specs.Steps.{empty_step, due_step, falls_step, nearer_step, tick_step}
 use Rattle.queue.specs.declared.Queue.{Queue}
-use Rattle.queue.proofs.Same.{falls_tick, still_tick}
-use Rattle.table.specs.Kind.{polling_kind}
 use Rattle.table.specs.Limits.{entries}
 use Rattle.table.specs.Table.{zero_server}
 use Rattle.table.specs.declared.Server.{Server}
 use Rattle.table.specs.declared.Table.{Table}
-use Rattle.state.specs.State.{zero_load, zero_entry, with_budget, server_at, entry_at}
-use Rattle.state.specs.Sound.{entryb, entriesb, stateb}
-use Rattle.state.specs.Choice.{first_pending, readyb, wantsb, chosen_of, choice_by, choice_of}
-use Rattle.state.specs.Polling.{lapsed, gives_upb}
+use Rattle.state.specs.State.{zero_entry, with_budget, full_at, server_at, entry_at}
+use Rattle.state.specs.Sound.{entryb, entriesb}
+use Rattle.state.specs.Choice.{place_in, first_pending, readyb, wantsb, chosen_of, choice_of}
+use Rattle.state.specs.Polling.{lapsed}
+use Rattle.state.specs.declared.Choice.TheVariants.{Idle, Burning, Running}
 use Rattle.state.specs.declared.Entry.{Entry}
 use Rattle.state.specs.declared.State.{State}
 use Rattle.state.proofs.Sizes.{past_entry}
-use Rattle.state.proofs.Stated.{every_server, entry_stated, held, Eight, paired_from, stated, state_parts}
-use Rattle.state.proofs.Lapsing.{lapsed_same, lapsed_given}
-use Rattle.state.proofs.Choosing.{FirstOf, first_ready, first_pending_lem}
+use Rattle.state.proofs.Places.{place_there, place_none}
+use Rattle.state.proofs.Stated.{every_server, Eight, paired_from, stated, state_parts}
+use Rattle.state.proofs.Choosing.{FirstOf, first_ready}
+use Rattle.scheduler.specs.Arrive.{with_entries}
 use Rattle.scheduler.specs.Tick.{charge, refilled, due_in, due_events, served4, each_entry, state_after, handled_of}
-use Rattle.scheduler.specs.Moves.{tabledb, with_queue, served_turn, PolledBelow, charged_entries, handled_entries}
-use Rattle.scheduler.specs.declared.EntryTurn.{EntryTurn}
+use Rattle.scheduler.specs.Moves.{EntryTurn, Ticking, Refillable, tabledb, served_turn, ended_turn, refills_after, charged_entries, handled_entries}
 use Rattle.table.proofs.Sizes.{past_server}
-use Rattle.scheduler.proofs.LapsedEntries.{lapsed_at, lapsed_length}
-use Rattle.scheduler.proofs.Keeps.{tick_sound}
+use Rattle.scheduler.proofs.LapsedEntries.{lapsed_length, each_twice}
 use Rattle.scheduler.proofs.TickSound.{before_sound}
-use Rattle.scheduler.proofs.KeptSizes.{served_length, before_length, tick_length, tick_loads}
+use Rattle.scheduler.proofs.KeptSizes.{served_length, before_length}
 use Rattle.scheduler.proofs.TaskLaws.{each_at}
-use Rattle.scheduler.proofs.Arrivals.{tabled, served_few, served_none}
-use Rattle.scheduler.proofs.Refilling.{Refilled}
+use Rattle.scheduler.proofs.Refilling.{refills_few}
+use Rattle.scheduler.proofs.Arrivals.{tabled, served_few}
 
 -- STEP 4 OVER THE SERVERS' QUEUES
 
 -- what it makes of the entry at a place, and how many of its arrivals are due
 abbrev pub turn_at : Table → List Entry → ℕ → EntryTurn
-turn_at t es i = served_turn (get_or t.servers i zero_server) (get_or es i zero_entry)
+turn_at t es i = ended_turn (get_or t.servers i zero_server) (get_or es i zero_entry)
 
 -- a table and entries that are sound, place by place
 pub record Fitting (t : Table) (es : List Entry) : Type 0 where
@@ -97,14 +92,15 @@ module _ {t : Table} {es₀ es : List Entry} {n₀ n i : ℕ} (v : Serving t es�
   pub serve_sound : entryb server entry ≡ true
   serve_sound = rw (server_is, entry_is) (v.fitting.sound i l)
 
-  pub serve_few : (served_turn server entry).handled ≤ entries
+  pub serve_few : (ended_turn server entry).handled ≤ entries
+  unfolding ended_turn served_turn
   serve_few = served_few server entry serve_tabled serve_sound
 
   -- it is served
-  pub serve_more : (r : EntryTurn) → r ≡ served_turn server entry → Serving t es₀ n₀ (set es i r.entry) (n + r.handled) (i + 1)
+  pub serve_more : (r : EntryTurn) → r ≡ ended_turn server entry → Serving t es₀ n₀ (set es i r.entry) (n + r.handled) (i + 1)
   unfolding sum_below
   serve_more r d =
-      let e : r ≡ turn_at t es₀ i = d ∙ (λ k. served_turn (server_is k) (entry_is k)) in
+      let e : r ≡ turn_at t es₀ i = d ∙ (λ k. ended_turn (server_is k) (entry_is k)) in
       let m : sum_below (λ j. (turn_at t es₀ j).handled) (i + 1) ≡ sum_below (λ j. (turn_at t es₀ j).handled) i + (turn_at t es₀ i).handled = rw add-one in
       let g : r.handled ≡ (turn_at t es₀ i).handled = ap (λ (x : EntryTurn). x.handled) e in
       let f : r.handled ≤ entries = rw d serve_few in
@@ -115,81 +111,6 @@ module _ {t : Table} {es₀ es : List Entry} {n₀ n i : ℕ} (v : Serving t es�
         handled = omega (arith, v.handled);
         few = omega (arith, v.few);
       }
-
-  -- where the clock leaves nothing due only its queue changes
-  serve_none : (q : Queue) → tick_step entry.arrivals ≡ q → due_step (tick_step entry.arrivals) ≡ false
-      → Serving t es₀ n₀ (set es i (with_queue q entry)) n (i + 1)
-  serve_none q e d =
-      let r = served_none server entry serve_tabled serve_sound d ∙ (λ k. record { entry = with_queue (e k) entry; handled = 0 }) in
-      let k : n + 0 ≡ n = omega arith in
-      rw k at (serve_more _ (sym r))
-
-  -- its first gap falls
-  pub serve_falls : {y : Entry} → falls_step entry.arrivals ≡ true → y ≡ with_queue (nearer_step entry.arrivals) entry
-      → Serving t es₀ n₀ (set es i y) n (i + 1)
-  serve_falls h e =
-      let q = entry.arrivals in
-      let s : soundb max_gap longest q ≡ true = ((held _ q).0 ((entry_stated server entry).0 serve_sound).arrivals).sound in
-      let k = falls_tick max_gap longest q s h in
-      rw e (serve_none (nearer_step q) k.0 k.1)
-
-  -- it has no event
-  pub serve_still : empty_step entry.arrivals ≡ true → Serving t es₀ n₀ es n (i + 1)
-  serve_still h =
-      let k = still_tick entry.arrivals h in
-      rw (set-get_or es i past_entry) at (serve_none entry.arrivals k.0 k.1)
-
--- BUDGETS THAT ARE GIVEN UP
-
--- the first p entries have given up what they had to, the others are as they were
-pub record Lapsing (t : Table) (es₀ es : List Entry) (p : ℕ) : Type 0 where
-  pub servers : length t.servers ≡ entries
-  pub full : length es₀ ≡ entries
-  pub place : p ≤ entries
-  pub given : es ≡ firsts (λ j. lapsed (get_or t.servers j zero_server) (get_or es₀ j zero_entry)) p ++ drop p es₀
-
-module _ {t : Table} {es₀ es : List Entry} where
-  module _ {p : ℕ} (v : Lapsing t es₀ es p) (l : p < entries) where
-    -- what the code reads at p, which is as it was
-    abbrev polled : Server
-    polled = get_or t.servers p past_server
-
-    abbrev lapsing : Entry
-    lapsing = get_or es p past_entry
-
-    lapse_more : {y : Entry} → y ≡ lapsed polled lapsing → Lapsing t es₀ (set es p y) (p + 1)
-    lapse_more e =
-        let f : ℕ → Entry = λ j. lapsed (get_or t.servers j zero_server) (get_or es₀ j zero_entry) in
-        let i : p < length es₀ = omega (arith, v.full) in
-        let s = get_or_inside t.servers p past_server zero_server (omega (arith, v.servers)) in
-        let x = ap (λ (z : List Entry). get_or z p past_entry) v.given ∙ firsts_at f es₀ p past_entry i ∙ get_or_inside es₀ p past_entry zero_entry i in
-        record {
-          servers = v.servers;
-          full = v.full;
-          place = omega arith;
-          given = (λ k. set (v.given k) p ((e ∙ (λ d. lapsed (s d) (x d))) k)) ∙ firsts_more f es₀ p zero_entry i;
-        }
-
-    pub lapse_given : {y : Entry} → gives_upb polled.kind lapsing ≡ true → y ≡ with_budget 0 lapsing → Lapsing t es₀ (set es p y) (p + 1)
-    lapse_given h e = lapse_more (e ∙ sym (lapsed_given polled lapsing h))
-
-    pub lapse_none : gives_upb polled.kind lapsing ≡ false → Lapsing t es₀ es (p + 1)
-    lapse_none h = rw (set-get_or es p past_entry) at (lapse_more (sym (lapsed_same polled lapsing h)))
-
-  -- behind the last polling server nothing is given up
-  module _ {c : ℕ} (b : PolledBelow t.servers c) where
-    lapse_rest : (d p : ℕ) → p + d ≡ entries → c ≤ p → Lapsing t es₀ es p → Lapsing t es₀ es entries
-    lapse_rest zero p e g v = let q : p ≡ entries = omega arith in rw q at v
-    lapse_rest (suc d) p e g v =
-        let s = get_or_inside t.servers p past_server zero_server (omega (arith, v.servers)) in
-        let n : eqb (get_or t.servers p past_server).kind polling_kind ≡ false = rw s (b p g) in
-        lapse_rest d (p + 1) (omega arith) (omega arith) (lapse_none v (omega arith) (rw n))
-
-    pub lapse_end : {p : ℕ} → Lapsing t es₀ es p → c ≤ p → es ≡ each_entry lapsed t.servers es₀
-    lapse_end {p = p} v g =
-        let w = lapse_rest (entries - p) p (omega (arith, v.place)) g v in
-        w.given ∙ firsts_all _ es₀ (each_entry lapsed t.servers es₀) zero_entry entries (omega (arith, w.full)) (lapsed_length t.servers es₀ ∙ w.full)
-        (λ j h. lapsed_at t.servers es₀ j)
 
 -- THE HANDLED COUNT
 
@@ -208,139 +129,137 @@ due_append [] fs = omega arith
 due_append (e ∷ es) fs = omega (arith, due_append es fs)
 
 due_sum : (t : Table) (es : List Entry) (i : ℕ) → i ≤ length es → due_events (take i es) ≡ sum_below (λ j. (turn_at t es j).handled) i
-unfolding sum_below served_turn
+unfolding sum_below ended_turn
 due_sum t es zero h = refl
 due_sum t es (suc i) h =
     let l : i < length es = omega arith in
     rw (take-suc es i zero_entry l, due_append, due_sum t es i (omega arith)) (omega arith)
 
--- A STATE THAT TICKS: sound, with its eight entries of eight loads each
-
-pub record Ticking (s : State) : Type 0 where
-  pub sound : stateb s ≡ true
-  pub eight : Eight s
-  pub loads : (i : ℕ) → i < entries → length (entry_at s i).loads ≡ entries
-
--- and so does the next
-pub tick_kept : (s : State) → Ticking s → Ticking (state_after s)
-unfolding state_after
-tick_kept s k = record {
-  sound = tick_sound s k.sound;
-  eight = record { servers = k.eight.servers; entries = tick_length s ∙ k.eight.entries };
-  loads = λ i h. tick_loads s i ∙ k.loads i h;
-}
-
--- i is chosen, and in it task j: the entries after the charge, and what the tick answers
-pub record Charged (s : State) (i j : ℕ) (es : List Entry) : Type 0 where
-  pub charged : es ≡ charged_entries s
-  pub task : j ≤ entries
-  pub choice : choice_by i j ≡ choice_of s
+-- STEPS 1 TO 3
 
 module _ (s : State) (k : Ticking s) where
-  -- STEPS 1 TO 3
+  z : Eight s
+  z = record { servers = k.sized.table.servers; entries = k.sized.servers }
 
   -- the chosen one is the first that is ready
   chosen_first : FirstOf (λ (i : ℕ). readyb (server_at s i).kind (entry_at s i)) (length s.table.servers) (chosen_of s)
   unfolding chosen_of
-  chosen_first = first_ready s.table.servers s.entries (omega (arith, k.eight.servers, k.eight.entries)) zero_server zero_entry
+  chosen_first = first_ready s.table.servers s.entries (omega (arith, z.servers, z.entries)) zero_server zero_entry
 
-  module _ {i : ℕ} (c : i ≡ chosen_of s) where
-    pub chosen_within : i ≤ entries
-    chosen_within = omega (arith, k.eight.servers, chosen_first.below)
+  -- one is: what the code reads of its entry, which has budget
+  module _ {i : ℕ} (c : place_in (chosen_of s) ≡ Some i) where
+    abbrev chosen : Entry
+    chosen = get_or s.entries i past_entry
 
-    -- one is: what the code reads of its entry, which has budget
-    module _ (l : i < entries) where
-      abbrev chosen : Entry
-      chosen = get_or s.entries i past_entry
+    there : (chosen_of s ≡ i) × (i < entries)
+    there = place_there (chosen_of s) i c
 
-      chosen_inside : i < length s.entries
-      chosen_inside = omega (arith, k.eight.entries)
+    within : i < length s.entries
+    within = omega (arith, there.1, z.entries)
 
-      chosen_is : chosen ≡ entry_at s (chosen_of s)
-      chosen_is = get_or_inside s.entries i past_entry zero_entry chosen_inside ∙ ap (entry_at s) c
+    chosen_is : chosen ≡ entry_at s (chosen_of s)
+    chosen_is = get_or_inside s.entries i past_entry zero_entry within ∙ sym (ap (entry_at s) there.0)
 
-      pub chosen_budget : ltb 0 chosen.budget.0 ≡ true
-      chosen_budget =
-          rw chosen_is (both_right (wantsb (server_at s (chosen_of s)).kind (entry_at s (chosen_of s))) _ (chosen_first.here (omega (arith, k.eight.servers))))
+    pub chosen_budget : 0 < chosen.budget.0
+    chosen_budget =
+        let h = chosen_first.here (omega (arith, z.servers, there.0, there.1)) in
+        rw chosen_is (ltb-true 0 (entry_at s (chosen_of s)).budget.0 (both_right (wantsb (server_at s (chosen_of s)).kind (entry_at s (chosen_of s))) _ h))
 
-      pub charge_one : {j : ℕ} {es : List Entry} → j ≡ first_pending chosen.loads → es ≡ set s.entries i (charge chosen) → Charged s i j es
-      unfolding choice_of
-      charge_one {j = j} f e =
-          let t : j ≡ first_pending (entry_at s (chosen_of s)).loads = f ∙ ap (λ (x : Entry). first_pending x.loads) chosen_is in
-          let h : chosen_of s < entries = omega arith in
-          record {
-            charged = e ∙ set_alter charge s.entries i past_entry chosen_inside ∙ ap (alter charge s.entries) c;
-            task = omega (arith, (first_pending_lem (entry_at s (chosen_of s)).loads zero_load).below, k.loads (chosen_of s) h);
-            choice = λ d. choice_by (c d) (t d);
-          }
+    pub chosen_loads : length chosen.loads ≡ entries
+    chosen_loads = rw chosen_is (k.sized.loads (chosen_of s) (omega (arith, there.0, there.1)))
 
-    -- none is
-    pub charge_none : {j : ℕ} {es : List Entry} → entries ≤ i → j ≤ entries → es ≡ s.entries → Charged s i j es
+    pub charge_one : {e : Entry} → e ≡ charge chosen → record { entries = set s.entries i e; table = s.table; refills = s.refills } ≡ with_entries (charged_entries s) s
+    charge_one e =
+        let x = ap (set s.entries i) e ∙ set_alter charge s.entries i past_entry within ∙ sym (ap (alter charge s.entries) there.0) in
+        λ k. record { entries = x k; table = s.table; refills = s.refills }
+
+    -- what is answered where in it task j is charged, and where none is
+
+    pub says_running : {j : ℕ} → place_in (first_pending chosen.loads) ≡ Some j → Running i j ≡ choice_of s
     unfolding choice_of
-    charge_none l m e = record {
-      charged = e ∙ sym (alter_past charge s.entries (chosen_of s) (omega (arith, k.eight.entries)));
-      task = m;
-      choice = rw (le-ltb i entries l, le-ltb (chosen_of s) entries (omega arith));
-    }
+    says_running {j} h =
+        let q = place_there (first_pending (entry_at s (chosen_of s)).loads) j (rw chosen_is at h) in
+        rw (q.0, there.0, lt-ltb i entries there.1, lt-ltb j entries q.1)
+
+    pub says_burning : place_in (first_pending chosen.loads) ≡ None → Burning i ≡ choice_of s
+    unfolding choice_of
+    says_burning h =
+        let q = place_none (first_pending (entry_at s (chosen_of s)).loads) (rw chosen_is at h) in
+        rw (le-ltb (first_pending (entry_at s (chosen_of s)).loads) entries q, there.0, lt-ltb i entries there.1)
+
+  -- none is
+  module _ (c : place_in (chosen_of s) ≡ None) where
+    pub charge_none : s ≡ with_entries (charged_entries s) s
+    charge_none =
+        let x = sym (alter_past charge s.entries (chosen_of s) (omega (arith, z.entries, place_none (chosen_of s) c))) in
+        λ k. record { entries = x k; table = s.table; refills = s.refills }
+
+    pub says_idle : Idle ≡ choice_of s
+    unfolding choice_of
+    says_idle = rw (le-ltb (chosen_of s) entries (place_none (chosen_of s) c))
 
   -- STEP 4
 
-  -- there are eight entries after the charge
-  pub charged_full : {i j : ℕ} {es : List Entry} → Charged s i j es → length es ≡ entries
-  charged_full c = ap length c.charged ∙ length_alter charge s.entries (chosen_of s) ∙ k.eight.entries
+  abbrev charged : State
+  charged = with_entries (charged_entries s) s
 
-  -- the replenishments' first gap falls
-  pub refills_fall : falls_step s.refills ≡ true → nearer_step s.refills ≡ tick_step s.refills
-  refills_fall f = sym (falls_tick max_gap longest s.refills ((held _ s.refills).0 ((state_parts s).0 k.sound).refills).sound f).0
+  pub charged_refillable : Refillable charged
+  charged_refillable =
+      let p = (state_parts s).0 k.sound in
+      record { servers = z.servers; entries = length_alter charge s.entries (chosen_of s) ∙ z.entries; table = p.table; refills = p.refills }
 
-  -- after the replenishments
-  module _ {es₀ : List Entry} {q : Queue} {n₀ : ℕ} (r : Refilled s es₀ q n₀) where
-    pub refilled_fitting : Fitting s.table es₀
-    refilled_fitting =
-        let l : length es₀ ≡ entries = ap length r.budgets ∙ before_length s ∙ k.eight.entries in
-        let h : entriesb s.table.servers es₀ ≡ true = rw r.budgets (before_sound s k.sound) in
-        record {
-          servers = k.eight.servers;
-          full = l;
-          tabled = λ i m. (tabled _).1 (every_server s.table ((stated s k.eight).0 k.sound).servers i m);
-          sound = λ i m. paired_from entryb s.table.servers es₀ h i (omega (arith, k.eight.servers)) (omega arith);
-        }
+  -- the entries after the replenishments
+  abbrev before : List Entry
+  before = refilled (full_at s) (due_in s.refills) (charged_entries s)
 
-    -- where all entries have been served the events are handled
-    module _ {es : List Entry} {n i : ℕ} (v : Serving s.table es₀ n₀ es n i) (m : entries ≤ i) where
-      last : i ≡ entries
-      last = omega (arith, v.place)
+  before_fitting : Fitting s.table before
+  before_fitting =
+      let l : length before ≡ entries = before_length s ∙ z.entries in
+      let e : entriesb s.table.servers before ≡ true = before_sound s k.sound in
+      record {
+        servers = z.servers;
+        full = l;
+        tabled = λ i m. (tabled _).1 (every_server s.table ((stated s z).0 k.sound).servers i m);
+        sound = λ i m. paired_from entryb s.table.servers before e i (omega (arith, z.servers)) (omega arith);
+      }
 
-      handled_all : es ≡ handled_entries s
-      unfolding served_turn
-      handled_all =
-          let f = v.fitting in
-          let ss = s.table.servers in
-          let l : length (each_entry served4 ss es₀) ≡ entries = served_length ss es₀ ∙ f.full in
-          let all =
-          firsts_all (λ j. (turn_at s.table es₀ j).entry) es₀ (each_entry served4 ss es₀) zero_entry entries (omega (arith, f.full)) l
-          (λ j h. each_at served4 ss es₀ j (omega (arith, f.servers)) (omega (arith, f.full))) in
-          let end = ap (λ (j : ℕ). firsts (λ h. (turn_at s.table es₀ h).entry) j ++ drop j es₀) last in
-          v.served ∙ end ∙ all ∙ ap (each_entry served4 ss) r.budgets
+  -- where all entries have been handled the tick is done
+  module _ {n₀ n : ℕ} {es : List Entry} (v : Serving s.table before n₀ es n entries) where
+    tick_entries : es ≡ each_entry lapsed s.table.servers (handled_entries s)
+    unfolding ended_turn
+    tick_entries =
+        let f = v.fitting in
+        let ss = s.table.servers in
+        let g : Server → Entry → Entry = λ s e. lapsed s (served4 s e) in
+        let twice = each_twice lapsed served4 ss before in
+        let l : length (each_entry g ss before) ≡ entries = ap length (sym twice) ∙ lapsed_length ss (each_entry served4 ss before) ∙ served_length ss before ∙ f.full in
+        let all =
+        firsts_all (λ j. (turn_at s.table before j).entry) before (each_entry g ss before) zero_entry entries (omega (arith, f.full)) l
+        (λ j h. each_at g ss before j (omega (arith, f.servers)) (omega (arith, f.full))) in
+        v.served ∙ all ∙ sym twice
 
-      pub lapse_start : Lapsing s.table es es 0
-      lapse_start =
-          let l = ap length handled_all ∙ served_length s.table.servers _ ∙ before_length s ∙ k.eight.entries in
-          record { servers = k.eight.servers; full = l; place = omega arith; given = refl }
+    tick_count : n₀ ≡ length (due_in s.refills) → n ≡ handled_of s
+    unfolding handled_of charge
+    tick_count r =
+        let f = v.fitting in
+        let t : take entries before ≡ before = take_all entries before (omega (arith, f.full)) in
+        let a : sum_below (λ j. (turn_at s.table before j).handled) entries ≡ due_events before = rw (← due_sum s.table before entries (omega (arith, f.full)), t) in
+        let b : due_events before ≡ due_events s.entries = rw due_refilled (due_altered charge (λ x. refl) s.entries (chosen_of s)) in
+        omega (arith, v.handled, r)
 
-      -- and where no polling server is left the tick is done
-      pub tick_state : {fs : List Entry} {p c : ℕ} → Lapsing s.table es fs p → PolledBelow s.table.servers c → c ≤ p
-          → record { entries = fs; table = s.table; refills = q } ≡ state_after s
-      unfolding state_after
-      tick_state w b g =
-          let e = lapse_end {t = s.table} b w g ∙ ap (each_entry lapsed s.table.servers) handled_all in
-          λ d. record { entries = e d; table = s.table; refills = r.queue d }
+  -- the state m and the count n₀ are those after the replenishments
+  module _ {m : State} {n₀ : ℕ} (e : m ≡ refills_after charged) (r : n₀ ≡ length (due_in s.refills)) where
+    pub handle_start : Serving m.table m.entries n₀ m.entries n₀ 0
+    handle_start =
+        let c = charged_refillable in
+        rw e (serve_start before_fitting (omega (arith, r, refills_few charged c.table c.refills)))
 
-      pub tick_count : n ≡ handled_of s
-      unfolding handled_of charge
-      tick_count =
-          let f = v.fitting in
-          let t : take entries es₀ ≡ es₀ = take_all entries es₀ (omega (arith, f.full)) in
-          let a : sum_below (λ j. (turn_at s.table es₀ j).handled) i ≡ due_events es₀ = rw (last, ← due_sum s.table es₀ entries (omega (arith, f.full)), t) in
-          let b : due_events es₀ ≡ due_events s.entries = rw (r.budgets, due_refilled) (due_altered charge (λ x. refl) s.entries (chosen_of s)) in
-          omega (arith, v.handled, r.handled)
+    pub tick_done : {x : State} {n : ℕ} → Serving m.table m.entries n₀ x.entries n entries → x.table ≡ m.table → x.refills ≡ m.refills
+        → (x ≡ state_after s) × (n ≡ handled_of s)
+    unfolding state_after
+    tick_done {x} v t q =
+        let w = rw e at v in
+        let d = tick_entries w in
+        let u = t ∙ ap (λ (y : State). y.table) e in
+        let p = q ∙ ap (λ (y : State). y.refills) e in
+        (λ i. record { entries = d i; table = u i; refills = p i }, tick_count w r)

@@ -17,7 +17,7 @@ use Rattle.queue.specs.Holds.{holdsb}
 use Rattle.queue.specs.Calls.{accepted_with, with_event, earlier, dueb, clock_of, take_of, insert_of}
 use Rattle.queue.specs.Steps.{first_cell, due_step, rest_step, tick_step, place_step, again_step}
 use Rattle.queue.specs.declared.Queue.{Queue}
-use Rattle.queue.specs.declared.Changed.{Changed}
+use Rattle.queue.specs.Calls.{Changed}
 use Rattle.queue.proofs.Events.{with_length}
 use Rattle.queue.proofs.Refusals.{take_accepted, clock_accepted}
 use Rattle.queue.proofs.Laws.{insert_events, clock_events}

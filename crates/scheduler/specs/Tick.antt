@@ -10,7 +10,7 @@ use Rattle.queue.specs.Limits.{max_gap, longest}
 use Rattle.queue.specs.Row.{Event, events_of}
 use Rattle.queue.specs.Calls.{clock_of, take_of, insert_of}
 use Rattle.queue.specs.declared.Queue.{Queue}
-use Rattle.queue.specs.declared.Changed.{Changed}
+use Rattle.queue.specs.Calls.{Changed}
 use Rattle.table.specs.Table.{served}
 use Rattle.table.specs.declared.Server.{Server}
 use Rattle.state.specs.State.{load, with_budget, task_at, period_at, full_at, task_delay}

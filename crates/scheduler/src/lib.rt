@@ -1,323 +1,202 @@
 // The scheduler over a state: a tick, a run of ticks and an arrival. Document 01, "Servers and tasks", and the polling servers of document 02, #101.
 #![tactic(auto)]
 
-ghost use Rattle.std.specs.Prelude.{◌≡◌, true, ◌≤◌, ltb};
-ghost use Rattle.queue.specs.Limits.{longest};
-ghost use Rattle.queue.specs.Steps.{empty_step, falls_step, nearer_step};
+ghost use Rattle.std.specs.Prelude.{◌≡◌, ◌<◌, ◌≤◌, length};
 ghost use Rattle.table.specs.Limits.{most_work, entries};
-ghost use Rattle.table.specs.Sound.{tableb};
-ghost use Rattle.state.specs.State.{most_pending, with_budget};
-ghost use Rattle.state.specs.Sound.{entryb, stateb};
-ghost use Rattle.state.specs.Choice.{first_pending, choice_by};
-ghost use Rattle.scheduler.specs.Arrive.{fitsb, load_after, arrival_by, arrived_by, arrive_of};
-ghost use Rattle.scheduler.specs.Tick.{charge, ticked_by, tick_of};
-ghost use Rattle.scheduler.specs.Run.{batch_size, answers_in, state_after_ticks, batch_by, run_of};
-ghost use Rattle.scheduler.specs.Moves.{tabledb, Clocked, due_turn, served_turn, with_queue, PolledBelow};
+ghost use Rattle.state.specs.State.{most_pending};
+ghost use Rattle.state.specs.Choice.{place_in, first_pending, choice_of};
+ghost use Rattle.state.specs.Meaning.{SizedState};
+ghost use Rattle.scheduler.specs.Arrive.{fitsb, load_after, arrival_by, with_entries, arrived_by, arrive_of};
+ghost use Rattle.scheduler.specs.Tick.{charge, due_in, state_after, handled_of, ticked_by, tick_of};
+ghost use Rattle.scheduler.specs.Run.{answer, batch_by, run_of};
+ghost use Rattle.scheduler.specs.Moves.{checked_of, Ticking, Refillable, Handleable, refills_after, turn_by, served_turn, ended_turn, charged_entries};
 
 use refusal::Reason;
 use state::{Choice, Entry, Load, State};
 use table::{Served, Server, Table};
 
+/// Whether an arrival's work was added to what is pending, or was lost.
 #[derive(Clone, Copy)]
 pub enum Arrival {
     Accepted,
     Lost,
 }
 
-// What a tick answers: whom it served, and how many events it handled.
+/// What a tick answers: whom it served, and how many events it handled.
 #[derive(Clone, Copy)]
 pub struct Answer {
     pub choice: Choice,
     pub handled: u32,
 }
 
-// The answers of `count` ticks in a row.
+/// The answers of `count` ticks in a row. Those behind them are idle.
 #[derive(Clone, Copy)]
 pub struct Batch {
     pub answers: [Answer; State::BATCH],
     pub count: usize,
 }
 
-// THE CALLS
+// THE CALLS. Where one is refused the state is as it was.
 
-// One tick: the choice, the charge, all queues clocked, and what polling servers give up. It is the run of one.
+/// One tick: the choice, the charge, all queues clocked, and what polling servers give up.
 pub fn tick(s: &mut State) -> Result<Answer, Reason>
     ensures { ticked_by result s.new ≡ tick_of s.old }
 {
-    if !state::sound(*s) {
-        return Err(Reason::Unsound);
-    }
-    let b = ticks(*s, 1);
-    *s = b.state;
-    Ok(b.answers[0])
+    checked(s)?;
+    Ok(one_tick(s))
 }
 
-// A number of ticks in a row, at most 64, with one check of the state.
+/// A number of ticks in a row, at most 64, with one check of the state.
 pub fn run(s: &mut State, k: usize) -> Result<Batch, Reason>
     ensures { batch_by result s.new ≡ run_of s.old k }
 {
-    if !state::sound(*s) {
-        return Err(Reason::Unsound);
-    }
+    checked(s)?;
     let count = k.min(State::BATCH);
-    let b = ticks(*s, count);
-    *s = b.state;
-    let answers = b.answers;
+    let idle = Answer {
+        choice: Choice::Idle,
+        handled: 0,
+    };
+    let mut answers = [idle; State::BATCH];
+    for i in 0..count {
+        answers[i] = one_tick(s);
+    }
     Ok(Batch { answers, count })
 }
 
-// An arrival at a server's task, which takes effect for the next tick.
+/// An arrival at a server's task, which takes effect for the next tick.
 pub fn arrive(s: &mut State, server: u8, task: u8) -> Result<Arrival, Reason>
     ensures { arrived_by result s.new ≡ arrive_of s.old server task }
 {
-    if !state::sound(*s) {
-        return Err(Reason::Unsound);
-    }
+    checked(s)?;
     let i = server as usize;
     if s.table.count <= i {
         return Err(Reason::NoServer);
     }
-    let entry = s.table.servers[i];
+    let v = &s.table.servers[i];
     let j = task as usize;
-    if entry.count <= j {
+    if v.count <= j {
         return Err(Reason::NoTask);
     }
-    let t = entry.tasks[j];
-    let release = t.release;
-    if table::is_periodic(release) {
+    let t = v.tasks[j];
+    if t.release.is_periodic() {
         return Err(Reason::TaskPeriodic);
     }
-    let work = t.work;
     let e = &mut s.entries[i];
-    Ok(arrives(&mut e.loads[j], work.0))
+    Ok(arrives(&mut e.loads[j], t.work))
 }
 
-// THE TICK
-
-// What the tick answers where server i is chosen, and in it task j.
-fn choice_of(i: usize, j: usize) -> Choice
-    requires { (i ≤ entries) × (j ≤ entries) }
-    ensures { result ≡ choice_by i j }
+// A state that is not sound is refused. And each has eight servers of eight tasks and eight entries of eight loads, of which the read tells the proof.
+fn checked(s: &State) -> Result<(), Reason>
+    ensures outcome { result ≡ checked_of s.now }
+    ensures sized { SizedState s.now }
 {
-    if Table::ENTRIES <= i {
+    let _entry = &s.entries[0];
+    if s.is_sound() {
+        Ok(())
+    } else {
+        Err(Reason::Unsound)
+    }
+}
+
+// THE TICK, of a state that is sound, in place
+
+fn one_tick(s: &mut State) -> Answer
+    requires { Ticking s.old }
+    ensures { (s.new ≡ state_after s.old) × (result ≡ answer (choice_of s.old) (handled_of s.old)) }
+{
+    let choice = charge_chosen(s);
+    let mut handled = handle_refills(s);
+    for i in 0..Table::ENTRIES {
+        handled += handle_entry(&s.table.servers[i], &mut s.entries[i]);
+    }
+    Answer { choice, handled }
+}
+
+// Steps 1 to 3. The highest server that wants and has budget, and in it the first task with pending work, is charged.
+fn charge_chosen(s: &mut State) -> Choice
+    requires { Ticking s.old }
+    ensures { (s.new ≡ with_entries (charged_entries s.old) s.old) × (result ≡ choice_of s.old) }
+{
+    let Some(i) = state::chosen(&s.table, &s.entries) else {
         return Choice::Idle;
+    };
+    match charge(&mut s.entries[i]) {
+        Some(j) => Choice::Running(i as u8, j as u8),
+        None => Choice::Burning(i as u8),
     }
-    if Table::ENTRIES <= j {
-        return Choice::Burning(i as u8);
-    }
-    Choice::Running(i as u8, j as u8)
 }
 
-// The budget and the first pending task's work fall by 1: j is that task's place, or 8.
-fn charged(e: Entry, j: usize) -> Entry
-    requires { (ltb 0 e.budget.0 ≡ true) × (j ≡ first_pending e.loads) }
-    ensures { result ≡ charge e }
+// The budget and the first pending task's work fall by 1: that task, where there is one.
+fn charge(e: &mut Entry) -> Option<usize>
+    requires { (0 < e.old.budget.0) × (length e.old.loads ≡ entries) }
+    ensures { (e.new ≡ charge e.old) × (result ≡ place_in (first_pending e.old.loads)) }
 {
-    let b = e.budget;
-    let mut next = e;
-    let less = Served(b.0 - 1);
-    next.budget = less;
-    if Table::ENTRIES <= j {
-        return next;
+    e.budget = Served(e.budget.0 - 1);
+    let j = e.first_pending()?;
+    let l = &mut e.loads[j];
+    l.pending = Served(l.pending.0 - 1);
+    Some(j)
+}
+
+// Step 4 for the replenishments: their queue is clocked, and each that is due sets its server's budget and goes in again a period away. How many they are.
+fn handle_refills(s: &mut State) -> u32
+    requires { Refillable s.old }
+    ensures { (s.new ≡ refills_after s.old) × (result ≡ length (due_in s.old.refills)) }
+{
+    s.refills.tick();
+    let mut due = 0;
+    while s.refills.is_due() {
+        let i = s.refills.first_id() as usize;
+        let v = &s.table.servers[i];
+        let period = v.period;
+        s.entries[i].budget = v.budget;
+        s.refills.again(period);
+        due += 1;
     }
-    let l = e.loads[j];
-    let p = l.pending;
-    next.loads[j] = Load {
-        pending: Served(p.0 - 1),
-        lost: l.lost,
-    };
-    next
+    due
+}
+
+// Step 4 for a server's own queue, and behind it what a polling server gives up. How many arrivals were due.
+fn handle_entry(server: &Server, e: &mut Entry) -> u32
+    requires { Handleable server.now e.old }
+    ensures { turn_by result e.new ≡ ended_turn server.now e.old }
+{
+    let arrived = handle_arrivals(server, e);
+    if e.gives_up(server) {
+        e.give_up();
+    }
+    arrived
+}
+
+// The queue is clocked, and of each arrival that is due the work arrives at its task, and it goes in again a period away. How many they are.
+fn handle_arrivals(server: &Server, e: &mut Entry) -> u32
+    requires { Handleable server.now e.old }
+    ensures { turn_by result e.new ≡ served_turn server.now e.old }
+{
+    e.arrivals.tick();
+    let mut arrived = 0;
+    while e.arrivals.is_due() {
+        let j = e.arrivals.first_id() as usize;
+        let t = server.tasks[j];
+        arrives(&mut e.loads[j], t.work);
+        e.arrivals.again(t.release.period());
+        arrived += 1;
+    }
+    arrived
 }
 
 // Work arrives at a task: it is added to what is pending, or lost and counted.
-fn arrives(l: &mut Load, work: u32) -> Arrival
-    requires { (l.old.pending.0 ≤ most_pending) × (work ≤ most_work) }
-    ensures { (l.new ≡ load_after work l.old) × (result ≡ arrival_by (fitsb work l.old)) }
+fn arrives(l: &mut Load, work: Served) -> Arrival
+    requires { (l.old.pending.0 ≤ most_pending) × (work.0 ≤ most_work) }
+    ensures { (l.new ≡ load_after work.0 l.old) × (result ≡ arrival_by (fitsb work.0 l.old)) }
 {
-    let sum = l.pending.0 + work;
+    let sum = l.pending.0 + work.0;
     if sum <= State::MOST_PENDING {
         l.pending = Served(sum);
         return Arrival::Accepted;
     }
     if l.lost < State::MOST_LOST {
-        l.lost = l.lost + 1;
+        l.lost += 1;
     }
     Arrival::Lost
-}
-
-// A server's entry after a tick, and how many of its arrivals were due.
-#[derive(Clone, Copy)]
-struct EntryTurn {
-    entry: Entry,
-    handled: u32,
-}
-
-// All arrivals that are due: each one's work arrives at its task, and it is put in again a period away.
-fn all_due(s: Server, e: Entry) -> EntryTurn
-    requires { Clocked s e }
-    ensures { result ≡ due_turn s e }
-{
-    let mut next = e;
-    let mut handled: u32 = 0;
-    while queue::steps::due(next.arrivals) {
-        let id = queue::steps::first_id(next.arrivals);
-        let j = id as usize;
-        let t = s.tasks[j];
-        let work = t.work;
-        arrives(&mut next.loads[j], work.0);
-        let r = t.release;
-        let q = queue::steps::again(next.arrivals, table::period_of(r));
-        next.arrivals = q;
-        handled = handled + 1;
-    }
-    EntryTurn {
-        entry: next,
-        handled: handled,
-    }
-}
-
-// The server's queue is clocked, and its due arrivals are handled.
-fn served(s: Server, e: Entry) -> EntryTurn
-    requires { (tabledb s ≡ true) × (entryb s e ≡ true) }
-    ensures { result ≡ served_turn s e }
-{
-    let mut next = e;
-    let q = queue::steps::ticked(e.arrivals);
-    next.arrivals = q;
-    all_due(s, next)
-}
-
-// Whether the first gap of the server's queue falls and stays above 0.
-fn falls(e: Entry) -> bool
-    ensures { result ≡ falls_step e.arrivals }
-{
-    queue::steps::falls(e.arrivals)
-}
-
-// Whether the server has no periodic task.
-fn still(e: Entry) -> bool
-    ensures { result ≡ empty_step e.arrivals }
-{
-    queue::steps::is_empty(e.arrivals)
-}
-
-fn nearer(e: Entry) -> Entry
-    ensures { result ≡ with_queue (nearer_step e.arrivals) e }
-{
-    let mut next = e;
-    let q = queue::steps::nearer(e.arrivals);
-    next.arrivals = q;
-    next
-}
-
-fn filled(e: Entry, budget: Served) -> Entry
-    ensures { result ≡ with_budget budget.0 e }
-{
-    let mut next = e;
-    next.budget = budget;
-    next
-}
-
-// How many entries a tick has to look at for budgets to give up: all where a server is polling, else none.
-fn polled_entries(t: Table) -> usize
-    requires { tableb longest most_work t ≡ true }
-    ensures { (result ≤ entries) × PolledBelow t.servers result }
-{
-    let mut i: usize = 0;
-    while i < t.count {
-        let s = t.servers[i];
-        if s.kind == Server::POLLING {
-            return Table::ENTRIES;
-        }
-        i = i + 1;
-    }
-    0
-}
-
-// What ticks in a row answer, and the state after them.
-#[derive(Clone, Copy)]
-struct Ran {
-    answers: [Answer; State::BATCH],
-    state: State,
-}
-
-// So many ticks of a state that is sound. The state's parts are locals, and a tick stores single entries: no tick copies the state.
-fn ticks(s: State, n: usize) -> Ran
-    requires { (stateb s ≡ true) × (n ≤ batch_size) }
-    ensures { (result.answers ≡ answers_in n s) × (result.state ≡ state_after_ticks n s) }
-{
-    let zero = Answer {
-        choice: Choice::Idle,
-        handled: 0,
-    };
-    let mut answers = [zero; State::BATCH];
-    let polled = polled_entries(s.table);
-    let table = s.table;
-    let mut entries = s.entries;
-    let mut refills = s.refills;
-    let mut k: usize = 0;
-    while k < n {
-        let c = state::chosen(table, entries);
-        let mut j = Table::ENTRIES;
-        if c < Table::ENTRIES {
-            j = state::first_pending(entries[c]);
-            let y = charged(entries[c], j);
-            entries[c] = y;
-        }
-        if queue::steps::falls(refills) {
-            refills = queue::steps::nearer(refills);
-        } else {
-            refills = queue::steps::ticked(refills);
-        }
-        let mut handled: u32 = 0;
-        while queue::steps::due(refills) {
-            let id = queue::steps::first_id(refills);
-            let f = id as usize;
-            let v = table.servers[f];
-            let y = filled(entries[f], v.budget);
-            entries[f] = y;
-            refills = queue::steps::again(refills, v.period);
-            handled = handled + 1;
-        }
-        let mut i: usize = 0;
-        while i < Table::ENTRIES {
-            if falls(entries[i]) {
-                let y = nearer(entries[i]);
-                entries[i] = y;
-                i = i + 1;
-                continue;
-            }
-            if still(entries[i]) {
-                i = i + 1;
-                continue;
-            }
-            let t = served(table.servers[i], entries[i]);
-            let y = t.entry;
-            entries[i] = y;
-            handled = handled + t.handled;
-            i = i + 1;
-        }
-        answers[k] = Answer {
-            choice: choice_of(c, j),
-            handled: handled,
-        };
-        let mut p: usize = 0;
-        while p < polled {
-            let v = table.servers[p];
-            if !state::gives_up(v.kind, entries[p]) {
-                p = p + 1;
-                continue;
-            }
-            let y = state::given_up(entries[p]);
-            entries[p] = y;
-            p = p + 1;
-        }
-        k = k + 1;
-    }
-    let state = State {
-        entries: entries,
-        table: table,
-        refills: refills,
-    };
-    Ran { answers, state }
 }

@@ -1,30 +1,22 @@
--- `scheduler::tick` meets its contract: a state that is not sound is refused, and any other takes one tick, which is accepted (proofs/TickSound.antt).
-use mathlib.Core.Path.{◌≡◌, sym, ap}
-use mathlib.Core.Bool.{true}
-use native.Mathlib.Omega.{arith}
-use lib.ListN.{get_or}
-use Rattle.state.specs.Sound.{stateb}
-use Rattle.state.specs.declared.Choice.TheVariants.{Idle}
-use Rattle.scheduler.specs.Tick.{Ticked, tick_of}
-use Rattle.scheduler.specs.Run.{answer}
+-- `scheduler::tick` meets its contract: a state that is not sound is refused, and a tick of any other is accepted (proofs/TickSound.antt).
+use mathlib.Core.Path.{sym, ◌∙◌}
+use Rattle.refusal.specs.Refusal.{none}
+use Rattle.scheduler.specs.Tick.{ticked_with, tick_of}
+use Rattle.scheduler.proofs.Outset.{checked_ok, handed_on}
 use Rattle.scheduler.proofs.TickSound.{tick_accepts}
 use Rattle.scheduler.proofs.tick.Goals as goal
-use Rattle.scheduler.proofs.tick.Goals.{Else-not-sound}
 
-pub returns-then-not-sound : goal.returns-then-not-sound
+pub returns-in_err-checked : goal.returns-in_err-checked
 unfolding tick_of
-returns-then-not-sound c =
-    rw (← c.if-not-sound.ensures)
+returns-in_err-checked c =
+    let h = handed_on c.args.s.now c.from_residual.result _ c.in_err-checked.ensures.outcome c.from_residual.ensures.1 in
+    rw (h.0, h.1)
 
-known : (c : Else-not-sound) → stateb c.args.s.now ≡ true
-known c = sym c.if-not-sound.ensures
-
-pub ticks-b-requires : goal.ticks-b-requires
-ticks-b-requires c =
-    (known (goal.at.ticks-b-requires c).Else-not-sound, omega arith)
+pub one_tick-requires : goal.one_tick-requires
+one_tick-requires c = record { sound = checked_ok c.args.s.now c.in_ok-checked.ensures.outcome; sized = c.checked.ensures.sized }
 
 pub returns : goal.returns
 returns c =
-    let b = c.ticks-b.ensures in
-    let t = sym (ap (λ (x : Ticked). x.refusal) (tick_accepts c.args.s.now (known (goal.at.returns c).Else-not-sound))) in
-    λ i. let a = get_or (b.0 i) 0 (answer Idle 0) in record { state = b.1 i; refusal = t i; choice = a.choice; handled = a.handled }
+    let s = c.args.s.now in
+    let t = c.one_tick.ensures in
+    (λ k. ticked_with none (t.1 k).choice (t.1 k).handled (t.0 k)) ∙ sym (tick_accepts s (checked_ok s c.in_ok-checked.ensures.outcome))

@@ -3,9 +3,8 @@
 #![tactic(auto)]
 
 use refusal::{Reason, Refusal};
-use std::fmt;
 use std::fmt::Display;
-use std::io;
+use std::{fmt, io};
 use table::Table;
 
 // An outcome as it is written here.
@@ -27,13 +26,18 @@ impl Display for Answer {
     }
 }
 
-// SETUPS
-
-fn read_setup(rt: &impl Print, name: impl Display + Drop, s: &[u8]) -> io::Result<()> {
-    println!(rt; "{name}: {}", Answer::of(setup::read(s)))
+fn show<A: Drop, E: Into<Refusal>>(
+    rt: &impl Print,
+    name: impl Display + Drop,
+    outcome: Result<A, E>,
+) -> io::Result<()> {
+    println!(rt; "{name}: {}", Answer::of(outcome))
 }
 
-// A piece of a setup that stands at a place, and its values in words.
+// SETUPS
+
+// A piece of a setup that stands at a place, and its values in words. The place stays beside the bytes: it may lie past the end, where `&mut s[at..]` is no slice.
+// Servers and tasks differ in the width of one field and in each word: one generic record would take the words as parameters, and each row below its types.
 trait Record: Display + Drop {
     fn put(&self, s: &mut [u8], at: u16);
 }
@@ -149,14 +153,18 @@ fn order(rt: &impl Print) -> io::Result<()> {
         ("server 1's task's O", 46),
         ("the end", 50),
     ] {
-        read_setup(rt, format_args!("wrong from {name} on"), &damaged(place))?;
+        show(
+            rt,
+            format_args!("wrong from {name} on"),
+            setup::read(&damaged(place)),
+        )?;
     }
     Ok(())
 }
 
 // "a server or task record runs past the end", "the record's start for 5": the first n bytes of a setup that is wrong from a place on, with n as the length.
 fn cut_records(rt: &impl Print) -> io::Result<()> {
-    read_setup(rt, "3 bytes, all wrong", front(&damaged(0), 3))?;
+    show(rt, "3 bytes, all wrong", setup::read(front(&damaged(0), 3)))?;
     for (name, place, n) in [
         ("3 bytes, the version wrong", 2, 3),
         ("4 bytes, the version wrong", 2, 4),
@@ -174,7 +182,7 @@ fn cut_records(rt: &impl Print) -> io::Result<()> {
     ] {
         let mut s = damaged(place);
         field::put(&mut s, 0, n);
-        read_setup(rt, name, front(&s, n))?;
+        show(rt, name, setup::read(front(&s, n)))?;
     }
     Ok(())
 }
@@ -188,7 +196,7 @@ fn front(s: &[u8], n: u16) -> &[u8] {
 fn with(rt: &impl Print, place: u16, record: impl Record) -> io::Result<()> {
     let mut s = worked();
     record.put(&mut s, place);
-    read_setup(rt, format_args!("at {place} {record}"), &s)
+    show(rt, format_args!("at {place} {record}"), setup::read(&s))
 }
 
 // "0 or more than 8 servers", "more than 8 tasks"; more than the file has are 5, fewer 13. With 2 tasks server 0 takes server 1's record for a task's, and with
@@ -207,7 +215,7 @@ fn counts(rt: &impl Print) -> io::Result<()> {
     ] {
         let mut s = worked();
         start.put(&mut s, 0);
-        read_setup(rt, start, &s)?;
+        show(rt, start, setup::read(&s))?;
     }
     for (place, server) in [
         (27, Server(1, 0, 5, 2)),
@@ -280,9 +288,17 @@ fn task_values(rt: &impl Print) -> io::Result<()> {
 fn cuts(rt: &impl Print) -> io::Result<()> {
     for n in 0..50 {
         let mut s = worked();
-        read_setup(rt, format_args!("50 stated, {n} given"), front(&s, n))?;
+        show(
+            rt,
+            format_args!("50 stated, {n} given"),
+            setup::read(front(&s, n)),
+        )?;
         field::put(&mut s, 0, n);
-        read_setup(rt, format_args!("{n} stated and given"), front(&s, n))?;
+        show(
+            rt,
+            format_args!("{n} stated and given"),
+            setup::read(front(&s, n)),
+        )?;
     }
     Ok(())
 }
@@ -291,11 +307,11 @@ fn cuts(rt: &impl Print) -> io::Result<()> {
 fn appended(rt: &impl Print) -> io::Result<()> {
     let mut s = [0; 51];
     s[..50].copy_from_slice(&worked());
-    read_setup(rt, "50 stated, 51 given", &s)?;
+    show(rt, "50 stated, 51 given", setup::read(&s))?;
     field::put(&mut s, 0, 51u16);
-    read_setup(rt, "51 stated and given", &s)?;
+    show(rt, "51 stated and given", setup::read(&s))?;
     Task(1, 1, 5, 1_000_001).put(&mut s, 37);
-    read_setup(rt, "51 stated and given, O 1000001", &s)
+    show(rt, "51 stated and given, O 1000001", setup::read(&s))
 }
 
 // "The longest is 916 bytes.": eight servers with eight tasks each.
@@ -314,29 +330,37 @@ fn longest(s: &mut [u8], stated: u16) {
 fn long(rt: &impl Print) -> io::Result<()> {
     let mut s = [0; 917];
     longest(&mut s, 915);
-    read_setup(rt, "longest, 915 stated and given", front(&s, 915))?;
+    show(
+        rt,
+        "longest, 915 stated and given",
+        setup::read(front(&s, 915)),
+    )?;
     longest(&mut s, 916);
-    read_setup(rt, "longest, 916 stated and given", front(&s, 916))?;
-    read_setup(rt, "longest, 916 stated, 917 given", &s)?;
+    show(
+        rt,
+        "longest, 916 stated and given",
+        setup::read(front(&s, 916)),
+    )?;
+    show(rt, "longest, 916 stated, 917 given", setup::read(&s))?;
     longest(&mut s, 917);
-    read_setup(rt, "longest, 917 stated and given", &s)
+    show(rt, "longest, 917 stated and given", setup::read(&s))
 }
 
 // "stated length differs from what was given": 70,000 is 4,464 above what two bytes can count.
 fn too_long(rt: &impl Print) -> io::Result<()> {
     let mut s = [0; 70_000];
     longest(&mut s, 65_535);
-    read_setup(rt, "longest, 65535 stated and given", front(&s, 65_535))?;
-    read_setup(rt, "longest, 65535 stated, 70000 given", &s)?;
+    show(
+        rt,
+        "longest, 65535 stated and given",
+        setup::read(front(&s, 65_535)),
+    )?;
+    show(rt, "longest, 65535 stated, 70000 given", setup::read(&s))?;
     longest(&mut s, 4_464);
-    read_setup(rt, "longest, 4464 stated, 70000 given", &s)
+    show(rt, "longest, 4464 stated, 70000 given", setup::read(&s))
 }
 
 // MESSAGES
-
-fn read_message(rt: &impl Print, name: impl Display + Drop, s: &[u8]) -> io::Result<()> {
-    println!(rt; "{name}: {}", Answer::of(message::read(s)))
-}
 
 // "Messages: under 2 bytes 14, then 15, under 6 bytes 14, 16, 17.": every length up to seven. "The message reader doesn't look past the sixth byte."
 fn messages(rt: &impl Print) -> io::Result<()> {
@@ -347,7 +371,11 @@ fn messages(rt: &impl Print) -> io::Result<()> {
         ("run 8", b"\x00\x06\x01\x01\x00\x08\xff"),
     ] {
         for n in 0..8 {
-            read_message(rt, format_args!("{name}, given {n}"), front(s, n))?;
+            show(
+                rt,
+                format_args!("{name}, given {n}"),
+                message::read(front(s, n)),
+            )?;
         }
     }
     for (name, s) in [
@@ -359,7 +387,7 @@ fn messages(rt: &impl Print) -> io::Result<()> {
         ("run 65535", b"\x00\x06\x01\x01\xff\xff"),
         ("arrival 255 255", b"\x00\x06\x01\x02\xff\xff"),
     ] {
-        read_message(rt, name, s)?;
+        show(rt, name, message::read(s))?;
     }
     Ok(())
 }
@@ -377,7 +405,10 @@ fn written(
     let room = out.len();
     let length = outcome.unwrap_or(0);
     let found = if out == right { "same" } else { "differs" };
-    println!(rt; "{name} into {room}: {}, written {length}, {found}", Answer::of(outcome))
+    println!(rt;
+        "{name} into {room}: {}, written {length}, {found}",
+        Answer::of(outcome)
+    )
 }
 
 fn write_setup(
@@ -390,6 +421,7 @@ fn write_setup(
     written(rt, name, setup::write(t, out), out, right)
 }
 
+// A number and no kind: the writer refuses those that are none.
 fn write_message(rt: &impl Print, kind: u8, out: &mut [u8], right: &[u8]) -> io::Result<()> {
     let outcome = message::write(kind, 0, 8, out);
     written(rt, format_args!("kind {kind}"), outcome, out, right)

@@ -5,9 +5,8 @@
 use refusal::{Fault, Reason};
 use scheduler::Answer;
 use state::{Choice, State};
-use std::fmt;
 use std::fmt::Display;
-use std::io;
+use std::{fmt, io};
 
 // Of the ticks run so far.
 #[derive(Clone, Copy, Default)]

@@ -19,16 +19,13 @@ use Rattle.message.specs.declared.Message.TheVariants.{Run, Arrival}
 use Rattle.message.proofs.Answers.{read_decided}
 use Rattle.state.specs.Sound.{stateb}
 use Rattle.state.specs.declared.State.{State}
-use Rattle.scheduler.specs.Arrive.{arrival_number, arrive_checks, arrive_of}
-use Rattle.scheduler.specs.declared.Arrived.{Arrived}
+use Rattle.scheduler.specs.Arrive.{Arrived, arrival_number, arrive_checks, arrive_of}
 use Rattle.scheduler.proofs.Refusals.{arrive_31}
 use Rattle.scheduler.proofs.Unchanged.{arrive_unchanged}
 use Rattle.lines.specs.declared.Line.TheVariants.{Nothing, Refused, Lost}
-use Rattle.desk.specs.Desk.{tick_limit, desk_with, met, asked_of, arrived_of, done_of, message_of, ran_checks, not_run, next_batch, ran_of}
+use Rattle.desk.specs.Desk.{RanOn, Met, tick_limit, desk_with, met, asked_of, arrived_of, done_of, message_of, ran_checks, not_run, next_batch, ran_of}
 use Rattle.desk.specs.Meaning.{line_number}
 use Rattle.desk.specs.declared.Desk.{Desk}
-use Rattle.desk.specs.declared.Met.{Met}
-use Rattle.desk.specs.declared.Ran.{Ran}
 
 -- A MESSAGE: WHAT IT COMES TO
 
@@ -144,6 +141,6 @@ arrived_refused d i j k h =
 -- A BATCH OF TICKS
 
 module _ (d : Desk) where
-  pub run_on_decided : Decided (λ (r : Ran). r.refusal) (first_of (ran_checks d)) (next_batch d) (not_run (first_of (ran_checks d)) d) (ran_of d)
+  pub run_on_decided : Decided (λ (r : RanOn). r.refusal) (first_of (ran_checks d)) (next_batch d) (not_run (first_of (ran_checks d)) d) (ran_of d)
   unfolding ran_of
-  run_on_decided = decided (λ (r : Ran). r.refusal) (first_of (ran_checks d)) (next_batch d) (not_run (first_of (ran_checks d)) d) (ran_of d) refl refl refl
+  run_on_decided = decided (λ (r : RanOn). r.refusal) (first_of (ran_checks d)) (next_batch d) (not_run (first_of (ran_checks d)) d) (ran_of d) refl refl refl

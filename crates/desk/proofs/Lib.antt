@@ -10,3 +10,4 @@ pub mod Points
 pub mod Counts
 pub mod Cases
 pub mod OneBatch
+pub mod Views

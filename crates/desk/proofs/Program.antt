@@ -11,11 +11,10 @@ use Rattle.small.specs.Small.{pick}
 use Rattle.field.specs.Field.{field_of}
 use Rattle.lines.specs.Lines.{header_text, line_text}
 use Rattle.lines.specs.declared.Line.TheVariants.{Refused}
-use Rattle.desk.specs.Desk.{open_of, message_of}
+use Rattle.desk.specs.Desk.{Opened, open_of, message_of}
 use Rattle.desk.specs.Trace.{behind_left, messages_text, program_text, trace_of, program_of}
 use Rattle.desk.specs.Meaning.{Kept}
 use Rattle.desk.specs.declared.Desk.{Desk}
-use Rattle.desk.specs.declared.Opened.{Opened}
 use Rattle.desk.proofs.Batches.{batches}
 use Rattle.desk.proofs.Keeps.{opened_kept, message_kept, ticks_kept}
 

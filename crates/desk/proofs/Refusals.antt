@@ -13,17 +13,15 @@ use Rattle.refusal.proofs.Exactly.{number_when, none_when, no_place}
 use Rattle.queue.specs.Limits.{longest}
 use Rattle.table.specs.Limits.{most_work}
 use Rattle.setup.specs.Read.{read_of as setup_of}
-use Rattle.message.specs.Message.{kind_of, read_with, read_of}
+use Rattle.message.specs.Message.{Reading, kind_of, read_with, read_of}
 use Rattle.message.specs.declared.Message.TheVariants.{Run, Arrival}
-use Rattle.message.specs.declared.Reading.{Reading}
 use Rattle.message.proofs.Unchanged.{read_zero}
 use Rattle.state.specs.Sound.{stateb}
 use Rattle.scheduler.specs.Arrive.{arrive_of}
 use Rattle.scheduler.proofs.Refusals.{arrive_31}
-use Rattle.desk.specs.Desk.{tick_limit, open_of, message_of, ran_checks, ran_of}
+use Rattle.desk.specs.Desk.{Met, tick_limit, open_of, message_of, ran_checks, ran_of}
 use Rattle.desk.specs.Meaning.{line_number}
 use Rattle.desk.specs.declared.Desk.{Desk}
-use Rattle.desk.specs.declared.Met.{Met}
 use Rattle.desk.proofs.Cases.{message_unsound, message_unread, message_past, message_runs, message_arrives, message_cases, arrive_numbers, arrive_sound_by, arrive_not_21, unread_numbers, arrived_number, arrived_goes_on, run_on_decided}
 
 -- THE SETUP is refused as its reader refuses it, at the same place

@@ -11,11 +11,9 @@ use Rattle.table.specs.Sound.{tableb}
 use Rattle.setup.proofs.Unchanged.{read_refused}
 use Rattle.state.specs.Fresh.{empty_state, fresh_of}
 use Rattle.lines.specs.declared.Line.TheVariants.{Refused}
-use Rattle.desk.specs.Desk.{desk_with, open_of, message_of, not_run, ran_of}
+use Rattle.desk.specs.Desk.{RanOn, Met, desk_with, open_of, message_of, not_run, ran_of}
 use Rattle.desk.specs.Meaning.{line_number}
 use Rattle.desk.specs.declared.Desk.{Desk}
-use Rattle.desk.specs.declared.Met.{Met}
-use Rattle.desk.specs.declared.Ran.{Ran}
 use Rattle.desk.proofs.Cases.{message_cases, arrived_number, arrived_refused, run_on_decided}
 
 -- THE SETUP: "and zero in every other part"
@@ -46,4 +44,4 @@ module _ (d : Desk) where
   pub run_on_refused : (ran_of d).refusal.number ≢ 0 → ran_of d ≡ not_run (ran_of d).refusal d
   run_on_refused h =
       let e = ((run_on_decided d).refused h).1 in
-      e ∙ ap (λ (r : Ran). not_run r.refusal d) (sym e)
+      e ∙ ap (λ (r : RanOn). not_run r.refusal d) (sym e)

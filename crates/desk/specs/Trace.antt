@@ -6,9 +6,8 @@ use Rattle.field.specs.Field.{field_of}
 use Rattle.scheduler.specs.Run.{answers_of, state_after_ticks}
 use Rattle.lines.specs.Lines.{header_text, answer_lines, line_text, end_line}
 use Rattle.lines.specs.declared.Line.TheVariants.{Refused}
-use Rattle.desk.specs.Desk.{desk_with, open_of, message_of, ran_of}
+use Rattle.desk.specs.Desk.{RanOn, desk_with, open_of, message_of, ran_of}
 use Rattle.desk.specs.declared.Desk.{Desk}
-use Rattle.desk.specs.declared.Ran.{Ran}
 
 -- "a line for each tick": those that are left, and the run behind them
 abbrev pub left_lines : Desk → List ℕ
@@ -34,7 +33,7 @@ trace_of input =
     (line_text (Refused o.refusal.number o.refusal.place))
 
 -- what the program writes for a batch of the message at k, and behind it; a batch that is refused is the last
-abbrev pub batch_text : ℕ → Ran → List ℕ → List ℕ
+abbrev pub batch_text : ℕ → RanOn → List ℕ → List ℕ
 batch_text k r rest = pick (eqb r.refusal.number 0) (answer_lines r.first r.count r.answers ++ rest) (line_text (Refused r.refusal.number k))
 
 -- and for all ticks that are left, batch after batch; f is at least their number

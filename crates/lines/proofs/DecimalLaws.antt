@@ -1,13 +1,14 @@
 -- Laws of the decimal form that serve those who write one: case by case, and its digits from the last on. Assumes nothing.
 use mathlib.Core.Path.{◌≡◌, refl, ap}
 use mathlib.Core.Bool.{Bool, true, false}
-use mathlib.Core.List.{List, [], ◌∷◌, ◌++◌}
+use mathlib.Core.List.{List, [], ◌∷◌, ◌++◌, append_assoc}
 use Prim.Native.Nat.{ℕ, zero, suc, ◌+◌, ◌/◌, ◌%◌, ◌^◌, ◌≤◌, ◌<◌}
 use native.Mathlib.Nat.{pow-suc}
 use native.Mathlib.Omega.{arith}
 use lib.Dec.{ltb}
-use lib.ListN.{length, length-append}
+use lib.ListN.{length, drop, set, length-append}
 use borrow.Author.Tests.{ltb-true, ltb-false, lt-ltb, le-ltb}
+use Rattle.std.proofs.lemmas.List.{drop-set}
 use Rattle.small.specs.Small.{pick}
 use Rattle.lines.specs.Decimal.{digit, digits_in, decimal}
 
@@ -44,10 +45,21 @@ digits_enough (suc k) (suc m) n p q =
     ap (λ (ds : List ℕ). pick (ltb n 10) (digit n ∷ []) (ds ++ (digit (n % 10) ∷ []))) e
 
 -- from 10 on those of the tenth part, and the digit that is left
-pub decimal_more : (n : ℕ) → 10 ≤ n → n < 2 ^ 64 → decimal n ≡ decimal (n / 10) ++ (digit (n % 10) ∷ [])
+decimal_more : (n : ℕ) → 10 ≤ n → n < 2 ^ 64 → decimal n ≡ decimal (n / 10) ++ (digit (n % 10) ∷ [])
 unfolding decimal
 decimal_more n h b =
     rw (le-ltb n 10 h) (ap (λ (ds : List ℕ). ds ++ (digit (n % 10) ∷ [])) (digits_enough 18 19 (n / 10) (omega arith) (omega arith)))
 
 pub more_length : (n : ℕ) → 10 ≤ n → n < 2 ^ 64 → length (decimal n) ≡ length (decimal (n / 10)) + 1
 more_length n h b = rw (decimal_more n h b, length-append) refl
+
+-- FROM THE LAST DIGIT ON: the place of the digit that is found next, before those that are written
+
+-- one more is found
+pub digit_found : (n at : ℕ) (ds : List ℕ) → 10 ≤ n → n < 2 ^ 64 → at < length ds
+    → decimal n ++ drop (at + 1) ds ≡ decimal (n / 10) ++ drop at (set ds at (digit (n % 10)))
+digit_found n at ds h b l = rw (decimal_more n h b, append_assoc, drop-set ds at (digit (n % 10)) l) refl
+
+-- and the first
+pub first_found : (n at : ℕ) (ds : List ℕ) → n ≤ 9 → at < length ds → decimal n ++ drop (at + 1) ds ≡ drop at (set ds at (digit n))
+first_found n at ds h l = rw (decimal_one n h, drop-set ds at (digit n) l) refl

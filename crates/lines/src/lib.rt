@@ -28,6 +28,9 @@ pub const ROOM: usize = 64;
 
 pub const BATCH_ROOM: usize = ROOM * State::BATCH;
 
+// As many as a number of 64 bits has at most.
+const MOST_DIGITS: usize = 20;
+
 // `tick server task`
 pub fn header(out: &mut [u8], at: usize) -> Result<usize, Reason>
     ensures answer { written_by result ≡ put_of at header_text out.old }
@@ -234,23 +237,33 @@ impl Text {
         self.len = end;
     }
 
-    // A space and a number of a byte.
+    // A space and a number of a byte, which is mostly one digit.
     fn mark(&mut self, n: u8)
         requires { length self.old + length (mark_text n) ≤ room }
         ensures { self.new ≡ self.old ++ mark_text n }
     {
         self.byte(b' ');
-        self.number(n as u64);
+        if n <= 9 {
+            self.byte(b'0' + n);
+        } else {
+            self.number(n as u64);
+        }
     }
 
-    // The decimal digits of n, with no leading zero.
+    // The decimal digits of n, with no leading zero. The last is found first, and how many there are only then: no `for` counts them.
     fn number(&mut self, n: u64)
         requires { length self.old + length (decimal n) ≤ room }
         ensures { self.new ≡ self.old ++ decimal n }
     {
-        if 9 < n {
-            self.number(n / 10);
+        let mut digits = [0; MOST_DIGITS];
+        let mut at = MOST_DIGITS - 1;
+        let mut rest = n;
+        while 9 < rest {
+            digits[at] = b'0' + (rest % 10) as u8;
+            at -= 1;
+            rest /= 10;
         }
-        self.byte(b'0' + (n % 10) as u8);
+        digits[at] = b'0' + rest as u8;
+        self.word(&digits[at..]);
     }
 }

@@ -2,286 +2,303 @@
 // place, `0 at 0` where nothing is refused. The comments quote document 01 where they name no other.
 #![tactic(auto)]
 
-use field::Written;
-use refusal::Refusal;
-use std::io;
+use refusal::{Reason, Refusal};
+use std::fmt::Display;
+use std::{fmt, io};
 use table::Table;
 
-fn say(rt: &impl Print, text: &[u8]) -> io::Result<()> {
-    rt.write_all(text)
-}
+// An outcome as it is written here.
+#[derive(Drop)]
+struct Answer(Refusal);
 
-fn value(rt: &impl Print, text: &[u8], n: u64) -> io::Result<()> {
-    say(rt, text)?;
-    rt.print(n)
-}
-
-fn answer(rt: &impl Print, name: &[u8], r: Refusal) -> io::Result<()> {
-    say(rt, name)?;
-    value(rt, b": ", r.number as u64)?;
-    value(rt, b" at ", r.place as u64)
-}
-
-// The first n bytes, or all where there are fewer.
-fn front(s: &[u8], n: usize) -> &[u8] {
-    if s.len() <= n {
-        return s;
+impl Answer {
+    fn of<A: Drop, E: Into<Refusal>>(outcome: Result<A, E>) -> Answer {
+        match outcome {
+            Ok(_) => Answer(Refusal::NONE),
+            Err(e) => Answer(e.into()),
+        }
     }
-    &s[..n]
 }
 
-fn copy(from: &[u8], to: &mut [u8], n: u16) {
-    let mut i: u16 = 0;
-    while i < n {
-        let at = i as usize;
-        field::put_byte(to, at, field::byte(from, at, 0));
-        i = i + 1;
+impl Display for Answer {
+    fn fmt<W: fmt::Write>(&self, f: &mut fmt::Formatter<W>) -> fmt::Result {
+        write!(f, "{} at {}", self.0.number, self.0.place)
     }
+}
+
+fn show<A: Drop, E: Into<Refusal>>(
+    rt: &impl Print,
+    name: impl Display + Drop,
+    outcome: Result<A, E>,
+) -> io::Result<()> {
+    println!(rt; "{name}: {}", Answer::of(outcome))
 }
 
 // SETUPS
 
-fn read_setup(rt: &impl Print, name: &[u8], s: &[u8]) -> io::Result<()> {
-    let r = setup::read(s);
-    answer(rt, name, r.refusal)?;
-    say(rt, b"\n")
+// A piece of a setup that stands at a place, and its values in words. The place stays beside the bytes: it may lie past the end, where `&mut s[at..]` is no slice.
+// Servers and tasks differ in the width of one field and in each word: one generic record would take the words as parameters, and each row below its types.
+trait Record: Display + Drop {
+    fn put(&self, s: &mut [u8], at: u16);
 }
 
 // "Setup: total length (2 bytes), version 1, number of servers"
-fn start(s: &mut [u8], length: u16, version: u8, servers: u8) {
-    field::put_two(s, 0, length);
-    field::put_byte(s, 2, version);
-    field::put_byte(s, 3, servers);
+#[derive(Clone, Copy)]
+struct Start(u16, u8, u8);
+
+impl Record for Start {
+    fn put(&self, s: &mut [u8], at: u16) {
+        let at = usize::from(at);
+        field::put(s, at, self.0);
+        field::put(s, at + 2, self.1);
+        field::put(s, at + 3, self.2);
+    }
+}
+
+impl Display for Start {
+    fn fmt<W: fmt::Write>(&self, f: &mut fmt::Formatter<W>) -> fmt::Result {
+        let Start(length, version, servers) = *self;
+        write!(f, "length {length}, version {version}, servers {servers}")
+    }
 }
 
 // "then each server: kind, number of tasks, P (4), C (4)"
-fn server(s: &mut [u8], place: u16, kind: u8, tasks: u8, period: u32, budget: u32) {
-    let at = place as usize;
-    field::put_byte(s, at, kind);
-    field::put_byte(s, at + 1, tasks);
-    field::put_four(s, at + 2, period);
-    field::put_four(s, at + 6, budget);
+#[derive(Clone, Copy)]
+struct Server(u8, u8, u32, u32);
+
+impl Record for Server {
+    fn put(&self, s: &mut [u8], at: u16) {
+        let at = usize::from(at);
+        field::put(s, at, self.0);
+        field::put(s, at + 1, self.1);
+        field::put(s, at + 2, self.2);
+        field::put(s, at + 6, self.3);
+    }
+}
+
+impl Display for Server {
+    fn fmt<W: fmt::Write>(&self, f: &mut fmt::Formatter<W>) -> fmt::Result {
+        let Server(kind, tasks, period, budget) = *self;
+        write!(f, "kind {kind}, tasks {tasks}, P {period}, C {budget}")
+    }
 }
 
 // "then its tasks: release (0 on arrival, 1 periodic), E (4), T (4), O (4)"
-fn task(s: &mut [u8], place: u16, release: u8, work: u32, period: u32, offset: u32) {
-    let at = place as usize;
-    field::put_byte(s, at, release);
-    field::put_four(s, at + 1, work);
-    field::put_four(s, at + 5, period);
-    field::put_four(s, at + 9, offset);
+#[derive(Clone, Copy)]
+struct Task(u8, u32, u32, u32);
+
+impl Record for Task {
+    fn put(&self, s: &mut [u8], at: u16) {
+        let at = usize::from(at);
+        field::put(s, at, self.0);
+        field::put(s, at + 1, self.1);
+        field::put(s, at + 5, self.2);
+        field::put(s, at + 9, self.3);
+    }
+}
+
+impl Display for Task {
+    fn fmt<W: fmt::Write>(&self, f: &mut fmt::Formatter<W>) -> fmt::Result {
+        let Task(release, work, period, offset) = *self;
+        write!(f, "release {release}, E {work}, T {period}, O {offset}")
+    }
 }
 
 // "Setup, 50 bytes: server 0 deferrable, P 4, C 2, one task on arrival, E 3; server 1 idling, P 5, C 2, one periodic task, E 1, T 5, O 0."
 fn worked() -> [u8; 50] {
     let mut s = [0; 50];
-    start(&mut s, 50, 1, 2);
-    server(&mut s, 4, 2, 1, 4, 2);
-    task(&mut s, 14, 0, 3, 0, 0);
-    server(&mut s, 27, 1, 1, 5, 2);
-    task(&mut s, 37, 1, 1, 5, 0);
+    Start(50, 1, 2).put(&mut s, 0);
+    Server(2, 1, 4, 2).put(&mut s, 4);
+    Task(0, 3, 0, 0).put(&mut s, 14);
+    Server(1, 1, 5, 2).put(&mut s, 27);
+    Task(1, 1, 5, 0).put(&mut s, 37);
     s
 }
 
-// A setup with every field wrong.
-fn wrong() -> [u8; 50] {
+// The worked setup up to a place, and from there on one with every field wrong.
+fn damaged(place: usize) -> [u8; 50] {
     let mut s = [0; 50];
-    start(&mut s, 49, 2, 0);
-    server(&mut s, 4, 4, 9, 0, 0);
-    task(&mut s, 14, 2, 0, 1, 1);
-    server(&mut s, 27, 0, 255, 1_000_001, 6);
-    task(&mut s, 37, 255, 1_000_001, 0, 1_000_001);
+    Start(49, 2, 0).put(&mut s, 0);
+    Server(4, 9, 0, 0).put(&mut s, 4);
+    Task(2, 0, 1, 1).put(&mut s, 14);
+    Server(0, 255, 1_000_001, 6).put(&mut s, 27);
+    Task(255, 1_000_001, 0, 1_000_001).put(&mut s, 37);
+    for (wrong, right) in s.iter_mut().zip(&worked()).take(place) {
+        *wrong = *right;
+    }
     s
-}
-
-// The worked setup up to a place, and wrong from there on.
-fn damaged(place: u16) -> [u8; 50] {
-    let mut s = wrong();
-    copy(&worked(), &mut s, place);
-    s
-}
-
-fn wrong_from(rt: &impl Print, name: &[u8], place: u16) -> io::Result<()> {
-    say(rt, b"wrong from ")?;
-    say(rt, name)?;
-    read_setup(rt, b" on", &damaged(place))
 }
 
 // "Setup: 1 to 4, then records in file order, each whole (5) before its fields in file order": the first fault of many is the answer.
 fn order(rt: &impl Print) -> io::Result<()> {
-    wrong_from(rt, b"the length", 0)?;
-    wrong_from(rt, b"the version", 2)?;
-    wrong_from(rt, b"the number of servers", 3)?;
-    wrong_from(rt, b"server 0's kind", 4)?;
-    wrong_from(rt, b"server 0's number of tasks", 5)?;
-    wrong_from(rt, b"server 0's P", 6)?;
-    wrong_from(rt, b"server 0's C", 10)?;
-    wrong_from(rt, b"server 0's task's release", 14)?;
-    wrong_from(rt, b"server 0's task's E", 15)?;
-    wrong_from(rt, b"server 0's task's T", 19)?;
-    wrong_from(rt, b"server 0's task's O", 23)?;
-    wrong_from(rt, b"server 1's kind", 27)?;
-    wrong_from(rt, b"server 1's number of tasks", 28)?;
-    wrong_from(rt, b"server 1's P", 29)?;
-    wrong_from(rt, b"server 1's C", 33)?;
-    wrong_from(rt, b"server 1's task's release", 37)?;
-    wrong_from(rt, b"server 1's task's E", 38)?;
-    wrong_from(rt, b"server 1's task's T", 42)?;
-    wrong_from(rt, b"server 1's task's O", 46)?;
-    wrong_from(rt, b"the end", 50)
+    for (name, place) in [
+        ("the length", 0),
+        ("the version", 2),
+        ("the number of servers", 3),
+        ("server 0's kind", 4),
+        ("server 0's number of tasks", 5),
+        ("server 0's P", 6),
+        ("server 0's C", 10),
+        ("server 0's task's release", 14),
+        ("server 0's task's E", 15),
+        ("server 0's task's T", 19),
+        ("server 0's task's O", 23),
+        ("server 1's kind", 27),
+        ("server 1's number of tasks", 28),
+        ("server 1's P", 29),
+        ("server 1's C", 33),
+        ("server 1's task's release", 37),
+        ("server 1's task's E", 38),
+        ("server 1's task's T", 42),
+        ("server 1's task's O", 46),
+        ("the end", 50),
+    ] {
+        show(
+            rt,
+            format_args!("wrong from {name} on"),
+            setup::read(&damaged(place)),
+        )?;
+    }
+    Ok(())
 }
 
-// The first n bytes of a setup that is wrong from a place on, with n as the length.
-fn wrong_cut(rt: &impl Print, name: &[u8], place: u16, n: u16) -> io::Result<()> {
-    let mut s = damaged(place);
-    field::put_two(&mut s, 0, n);
-    read_setup(rt, name, front(&s, n as usize))
-}
-
-// "a server or task record runs past the end", "the record's start for 5"
+// "a server or task record runs past the end", "the record's start for 5": the first n bytes of a setup that is wrong from a place on, with n as the length.
 fn cut_records(rt: &impl Print) -> io::Result<()> {
-    read_setup(rt, b"3 bytes, all wrong", front(&wrong(), 3))?;
-    wrong_cut(rt, b"3 bytes, the version wrong", 2, 3)?;
-    wrong_cut(rt, b"4 bytes, the version wrong", 2, 4)?;
-    wrong_cut(rt, b"4 bytes, the number of servers wrong", 3, 4)?;
-    wrong_cut(rt, b"server 0's record cut, its kind wrong", 4, 13)?;
-    wrong_cut(rt, b"server 0's record whole, its kind wrong", 4, 14)?;
-    wrong_cut(rt, b"server 0's C wrong, its task cut", 10, 26)?;
-    wrong_cut(rt, b"server 0's task cut, its release wrong", 14, 26)?;
-    wrong_cut(rt, b"server 0's task whole, its release wrong", 14, 27)?;
-    wrong_cut(rt, b"server 0's task's O wrong, server 1 cut", 23, 36)?;
-    wrong_cut(rt, b"server 1's record cut, its kind wrong", 27, 36)?;
-    wrong_cut(rt, b"server 1's record whole, its kind wrong", 27, 37)?;
-    wrong_cut(rt, b"server 1's C wrong, its task cut", 33, 49)?;
-    wrong_cut(rt, b"server 1's task cut, its release wrong", 37, 49)
+    show(rt, "3 bytes, all wrong", setup::read(front(&damaged(0), 3)))?;
+    for (name, place, n) in [
+        ("3 bytes, the version wrong", 2, 3),
+        ("4 bytes, the version wrong", 2, 4),
+        ("4 bytes, the number of servers wrong", 3, 4),
+        ("server 0's record cut, its kind wrong", 4, 13),
+        ("server 0's record whole, its kind wrong", 4, 14),
+        ("server 0's C wrong, its task cut", 10, 26),
+        ("server 0's task cut, its release wrong", 14, 26),
+        ("server 0's task whole, its release wrong", 14, 27),
+        ("server 0's task's O wrong, server 1 cut", 23, 36),
+        ("server 1's record cut, its kind wrong", 27, 36),
+        ("server 1's record whole, its kind wrong", 27, 37),
+        ("server 1's C wrong, its task cut", 33, 49),
+        ("server 1's task cut, its release wrong", 37, 49),
+    ] {
+        let mut s = damaged(place);
+        field::put(&mut s, 0, n);
+        show(rt, name, setup::read(front(&s, n)))?;
+    }
+    Ok(())
 }
 
-// The worked setup with another start, or with another record at a place.
-
-fn with_start(rt: &impl Print, length: u16, version: u8, servers: u8) -> io::Result<()> {
-    let mut s = worked();
-    start(&mut s, length, version, servers);
-    value(rt, b"length ", length as u64)?;
-    value(rt, b", version ", version as u64)?;
-    value(rt, b", servers ", servers as u64)?;
-    read_setup(rt, b"", &s)
+// The first n bytes, or all where there are fewer.
+fn front(s: &[u8], n: u16) -> &[u8] {
+    s.get(..n as usize).unwrap_or(s)
 }
 
-fn with_server(
-    rt: &impl Print,
-    place: u16,
-    kind: u8,
-    tasks: u8,
-    period: u32,
-    budget: u32,
-) -> io::Result<()> {
+// The worked setup with another record at a place.
+fn with(rt: &impl Print, place: u16, record: impl Record) -> io::Result<()> {
     let mut s = worked();
-    server(&mut s, place, kind, tasks, period, budget);
-    value(rt, b"at ", place as u64)?;
-    value(rt, b" kind ", kind as u64)?;
-    value(rt, b", tasks ", tasks as u64)?;
-    value(rt, b", P ", period as u64)?;
-    value(rt, b", C ", budget as u64)?;
-    read_setup(rt, b"", &s)
-}
-
-fn with_task(
-    rt: &impl Print,
-    place: u16,
-    release: u8,
-    work: u32,
-    period: u32,
-    offset: u32,
-) -> io::Result<()> {
-    let mut s = worked();
-    task(&mut s, place, release, work, period, offset);
-    value(rt, b"at ", place as u64)?;
-    value(rt, b" release ", release as u64)?;
-    value(rt, b", E ", work as u64)?;
-    value(rt, b", T ", period as u64)?;
-    value(rt, b", O ", offset as u64)?;
-    read_setup(rt, b"", &s)
+    record.put(&mut s, place);
+    show(rt, format_args!("at {place} {record}"), setup::read(&s))
 }
 
 // "0 or more than 8 servers", "more than 8 tasks"; more than the file has are 5, fewer 13. With 2 tasks server 0 takes server 1's record for a task's, and with
 // none its own task's record for a server's.
 fn counts(rt: &impl Print) -> io::Result<()> {
-    with_start(rt, 50, 1, 2)?;
-    with_start(rt, 49, 1, 2)?;
-    with_start(rt, 51, 1, 2)?;
-    with_start(rt, 50, 0, 9)?;
-    with_start(rt, 50, 1, 0)?;
-    with_start(rt, 50, 1, 1)?;
-    with_start(rt, 50, 1, 3)?;
-    with_start(rt, 50, 1, 8)?;
-    with_start(rt, 50, 1, 9)?;
-    with_server(rt, 27, 1, 0, 5, 2)?;
-    with_server(rt, 27, 1, 2, 5, 2)?;
-    with_server(rt, 27, 1, 8, 5, 2)?;
-    with_server(rt, 27, 1, 9, 0, 0)?;
-    with_server(rt, 4, 2, 2, 4, 2)?;
-    with_server(rt, 4, 2, 0, 4, 2)
+    for start in [
+        Start(50, 1, 2),
+        Start(49, 1, 2),
+        Start(51, 1, 2),
+        Start(50, 0, 9),
+        Start(50, 1, 0),
+        Start(50, 1, 1),
+        Start(50, 1, 3),
+        Start(50, 1, 8),
+        Start(50, 1, 9),
+    ] {
+        let mut s = worked();
+        start.put(&mut s, 0);
+        show(rt, start, setup::read(&s))?;
+    }
+    for (place, server) in [
+        (27, Server(1, 0, 5, 2)),
+        (27, Server(1, 2, 5, 2)),
+        (27, Server(1, 8, 5, 2)),
+        (27, Server(1, 9, 0, 0)),
+        (4, Server(2, 2, 4, 2)),
+        (4, Server(2, 0, 4, 2)),
+    ] {
+        with(rt, place, server)?;
+    }
+    Ok(())
 }
 
 // "kind not 1 or 2", and "Setup code 6 now allows 3." (document 02, #101); "P out of range", "C is 0 or above P"
 fn server_values(rt: &impl Print) -> io::Result<()> {
-    with_server(rt, 4, 0, 1, 4, 2)?;
-    with_server(rt, 4, 1, 1, 4, 2)?;
-    with_server(rt, 4, 3, 1, 4, 2)?;
-    with_server(rt, 4, 3, 9, 4, 2)?;
-    with_server(rt, 4, 4, 1, 4, 2)?;
-    with_server(rt, 4, 4, 9, 4, 2)?;
-    with_server(rt, 4, 255, 1, 4, 2)?;
-    with_server(rt, 27, 3, 1, 5, 2)?;
-    with_server(rt, 27, 4, 1, 5, 2)?;
-    with_server(rt, 4, 2, 1, 0, 0)?;
-    with_server(rt, 4, 2, 1, 1, 1)?;
-    with_server(rt, 4, 2, 1, 4, 0)?;
-    with_server(rt, 4, 2, 1, 4, 4)?;
-    with_server(rt, 4, 2, 1, 4, 5)?;
-    with_server(rt, 4, 2, 1, 4, 4_294_967_295)?;
-    with_server(rt, 4, 2, 1, 1_000_000, 1_000_000)?;
-    with_server(rt, 4, 2, 1, 1_000_000, 1_000_001)?;
-    with_server(rt, 4, 2, 1, 1_000_001, 1_000_001)?;
-    with_server(rt, 4, 2, 1, 4_294_967_295, 0)
+    for (place, server) in [
+        (4, Server(0, 1, 4, 2)),
+        (4, Server(1, 1, 4, 2)),
+        (4, Server(3, 1, 4, 2)),
+        (4, Server(3, 9, 4, 2)),
+        (4, Server(4, 1, 4, 2)),
+        (4, Server(4, 9, 4, 2)),
+        (4, Server(255, 1, 4, 2)),
+        (27, Server(3, 1, 5, 2)),
+        (27, Server(4, 1, 5, 2)),
+        (4, Server(2, 1, 0, 0)),
+        (4, Server(2, 1, 1, 1)),
+        (4, Server(2, 1, 4, 0)),
+        (4, Server(2, 1, 4, 4)),
+        (4, Server(2, 1, 4, 5)),
+        (4, Server(2, 1, 4, 4_294_967_295)),
+        (4, Server(2, 1, 1_000_000, 1_000_000)),
+        (4, Server(2, 1, 1_000_000, 1_000_001)),
+        (4, Server(2, 1, 1_000_001, 1_000_001)),
+        (4, Server(2, 1, 4_294_967_295, 0)),
+    ] {
+        with(rt, place, server)?;
+    }
+    Ok(())
 }
 
 // "release not 0 or 1", "E out of range", "T or O wrong for the release"; "On arrival, T and O must be 0."
 fn task_values(rt: &impl Print) -> io::Result<()> {
-    with_task(rt, 37, 2, 0, 5, 0)?;
-    with_task(rt, 37, 1, 0, 0, 0)?;
-    with_task(rt, 37, 1, 1_000_000, 5, 0)?;
-    with_task(rt, 37, 1, 1_000_001, 0, 0)?;
-    with_task(rt, 37, 1, 1, 0, 1_000_001)?;
-    with_task(rt, 37, 1, 1, 1, 0)?;
-    with_task(rt, 37, 1, 1, 1, 2)?;
-    with_task(rt, 37, 1, 1, 1_000_000, 1_000_000)?;
-    with_task(rt, 37, 1, 1, 1_000_001, 1_000_001)?;
-    with_task(rt, 37, 1, 1, 1_000_000, 1_000_001)?;
-    with_task(rt, 37, 0, 1, 5, 0)?;
-    with_task(rt, 37, 0, 1, 0, 0)?;
-    with_task(rt, 14, 0, 1_000_000, 0, 0)?;
-    with_task(rt, 14, 0, 1_000_001, 1, 1)?;
-    with_task(rt, 14, 0, 3, 1, 1)?;
-    with_task(rt, 14, 0, 3, 0, 1)?;
-    with_task(rt, 14, 1, 3, 0, 0)
+    for (place, task) in [
+        (37, Task(2, 0, 5, 0)),
+        (37, Task(1, 0, 0, 0)),
+        (37, Task(1, 1_000_000, 5, 0)),
+        (37, Task(1, 1_000_001, 0, 0)),
+        (37, Task(1, 1, 0, 1_000_001)),
+        (37, Task(1, 1, 1, 0)),
+        (37, Task(1, 1, 1, 2)),
+        (37, Task(1, 1, 1_000_000, 1_000_000)),
+        (37, Task(1, 1, 1_000_001, 1_000_001)),
+        (37, Task(1, 1, 1_000_000, 1_000_001)),
+        (37, Task(0, 1, 5, 0)),
+        (37, Task(0, 1, 0, 0)),
+        (14, Task(0, 1_000_000, 0, 0)),
+        (14, Task(0, 1_000_001, 1, 1)),
+        (14, Task(0, 3, 1, 1)),
+        (14, Task(0, 3, 0, 1)),
+        (14, Task(1, 3, 0, 0)),
+    ] {
+        with(rt, place, task)?;
+    }
+    Ok(())
 }
 
 // The first n bytes of the worked setup, with its own length and with n as the length.
-fn cut(rt: &impl Print, n: u16) -> io::Result<()> {
-    let mut s = worked();
-    value(rt, b"50 stated, ", n as u64)?;
-    read_setup(rt, b" given", front(&s, n as usize))?;
-    field::put_two(&mut s, 0, n);
-    value(rt, b"", n as u64)?;
-    read_setup(rt, b" stated and given", front(&s, n as usize))
-}
-
 fn cuts(rt: &impl Print) -> io::Result<()> {
-    let mut n: u16 = 0;
-    while n < 50 {
-        cut(rt, n)?;
-        n = n + 1;
+    for n in 0..50 {
+        let mut s = worked();
+        show(
+            rt,
+            format_args!("50 stated, {n} given"),
+            setup::read(front(&s, n)),
+        )?;
+        field::put(&mut s, 0, n);
+        show(
+            rt,
+            format_args!("{n} stated and given"),
+            setup::read(front(&s, n)),
+        )?;
     }
     Ok(())
 }
@@ -289,186 +306,178 @@ fn cuts(rt: &impl Print) -> io::Result<()> {
 // "the first byte left for 13", and 13 last
 fn appended(rt: &impl Print) -> io::Result<()> {
     let mut s = [0; 51];
-    copy(&worked(), &mut s, 50);
-    read_setup(rt, b"50 stated, 51 given", &s)?;
-    field::put_two(&mut s, 0, 51);
-    read_setup(rt, b"51 stated and given", &s)?;
-    task(&mut s, 37, 1, 1, 5, 1_000_001);
-    read_setup(rt, b"51 stated and given, O 1000001", &s)
+    s[..50].copy_from_slice(&worked());
+    show(rt, "50 stated, 51 given", setup::read(&s))?;
+    field::put(&mut s, 0, 51u16);
+    show(rt, "51 stated and given", setup::read(&s))?;
+    Task(1, 1, 5, 1_000_001).put(&mut s, 37);
+    show(rt, "51 stated and given, O 1000001", setup::read(&s))
 }
 
 // "The longest is 916 bytes.": eight servers with eight tasks each.
 fn longest(s: &mut [u8], stated: u16) {
-    let most: u32 = 1_000_000;
-    start(s, stated, 1, 8);
-    let mut i: u16 = 0;
-    while i < 64 {
-        server(s, 4 + i / 8 * 114, 1, 8, most, most);
-        task(s, 14 + i / 8 * 10 + i * 13, 1, most, most, most);
-        i = i + 1;
+    let most = 1_000_000;
+    Start(stated, 1, 8).put(s, 0);
+    for i in 0..8 {
+        let at = 4 + i * 114;
+        Server(1, 8, most, most).put(s, at);
+        for k in 0..8 {
+            Task(1, most, most, most).put(s, at + 10 + k * 13);
+        }
     }
 }
 
 fn long(rt: &impl Print) -> io::Result<()> {
     let mut s = [0; 917];
     longest(&mut s, 915);
-    read_setup(rt, b"longest, 915 stated and given", front(&s, 915))?;
+    show(
+        rt,
+        "longest, 915 stated and given",
+        setup::read(front(&s, 915)),
+    )?;
     longest(&mut s, 916);
-    read_setup(rt, b"longest, 916 stated and given", front(&s, 916))?;
-    read_setup(rt, b"longest, 916 stated, 917 given", &s)?;
+    show(
+        rt,
+        "longest, 916 stated and given",
+        setup::read(front(&s, 916)),
+    )?;
+    show(rt, "longest, 916 stated, 917 given", setup::read(&s))?;
     longest(&mut s, 917);
-    read_setup(rt, b"longest, 917 stated and given", &s)
+    show(rt, "longest, 917 stated and given", setup::read(&s))
 }
 
 // "stated length differs from what was given": 70,000 is 4,464 above what two bytes can count.
 fn too_long(rt: &impl Print) -> io::Result<()> {
-    let mut s = [0; 70000];
+    let mut s = [0; 70_000];
     longest(&mut s, 65_535);
-    read_setup(rt, b"longest, 65535 stated and given", front(&s, 65535))?;
-    read_setup(rt, b"longest, 65535 stated, 70000 given", &s)?;
+    show(
+        rt,
+        "longest, 65535 stated and given",
+        setup::read(front(&s, 65_535)),
+    )?;
+    show(rt, "longest, 65535 stated, 70000 given", setup::read(&s))?;
     longest(&mut s, 4_464);
-    read_setup(rt, b"longest, 4464 stated, 70000 given", &s)
+    show(rt, "longest, 4464 stated, 70000 given", setup::read(&s))
 }
 
 // MESSAGES
 
-fn read_message(rt: &impl Print, name: &[u8], s: &[u8]) -> io::Result<()> {
-    let r = message::read(s);
-    answer(rt, name, r.refusal)?;
-    say(rt, b"\n")
-}
-
-// Every length up to seven. "The message reader doesn't look past the sixth byte."
-fn lengths(rt: &impl Print, name: &[u8], s: &[u8]) -> io::Result<()> {
-    let mut n: u16 = 0;
-    while n < 8 {
-        say(rt, name)?;
-        value(rt, b", given ", n as u64)?;
-        read_message(rt, b"", front(s, n as usize))?;
-        n = n + 1;
+// "Messages: under 2 bytes 14, then 15, under 6 bytes 14, 16, 17.": every length up to seven. "The message reader doesn't look past the sixth byte."
+fn messages(rt: &impl Print) -> io::Result<()> {
+    for (name, s) in [
+        ("wrong from length on", b"\x00\x07\x02\x03\x00\x08\xff"),
+        ("wrong from version on", b"\x00\x06\x02\x03\x00\x08\xff"),
+        ("kind 3", b"\x00\x06\x01\x03\x00\x08\xff"),
+        ("run 8", b"\x00\x06\x01\x01\x00\x08\xff"),
+    ] {
+        for n in 0..8 {
+            show(
+                rt,
+                format_args!("{name}, given {n}"),
+                message::read(front(s, n)),
+            )?;
+        }
+    }
+    for (name, s) in [
+        ("length 5", b"\x00\x05\x01\x01\x00\x08"),
+        ("length 262", b"\x01\x06\x01\x01\x00\x08"),
+        ("length 1536", b"\x06\x00\x01\x01\x00\x08"),
+        ("version 0, kind 0", b"\x00\x06\x00\x00\x00\x08"),
+        ("kind 0", b"\x00\x06\x01\x00\x00\x08"),
+        ("run 65535", b"\x00\x06\x01\x01\xff\xff"),
+        ("arrival 255 255", b"\x00\x06\x01\x02\xff\xff"),
+    ] {
+        show(rt, name, message::read(s))?;
     }
     Ok(())
 }
 
-// "Messages: under 2 bytes 14, then 15, under 6 bytes 14, 16, 17."
-fn messages(rt: &impl Print) -> io::Result<()> {
-    lengths(rt, b"wrong from length on", b"\x00\x07\x02\x03\x00\x08\xff")?;
-    lengths(
-        rt,
-        b"wrong from version on",
-        b"\x00\x06\x02\x03\x00\x08\xff",
-    )?;
-    lengths(rt, b"kind 3", b"\x00\x06\x01\x03\x00\x08\xff")?;
-    lengths(rt, b"run 8", b"\x00\x06\x01\x01\x00\x08\xff")?;
-    read_message(rt, b"length 5", b"\x00\x05\x01\x01\x00\x08")?;
-    read_message(rt, b"length 262", b"\x01\x06\x01\x01\x00\x08")?;
-    read_message(rt, b"length 1536", b"\x06\x00\x01\x01\x00\x08")?;
-    read_message(rt, b"version 0, kind 0", b"\x00\x06\x00\x00\x00\x08")?;
-    read_message(rt, b"kind 0", b"\x00\x06\x01\x00\x00\x08")?;
-    read_message(rt, b"run 65535", b"\x00\x06\x01\x01\xff\xff")?;
-    read_message(rt, b"arrival 255 255", b"\x00\x06\x01\x02\xff\xff")
-}
-
 // WRITERS
 
-fn same(a: &[u8], b: &[u8]) -> bool {
-    if a.len() != b.len() {
-        return false;
-    }
-    let mut i: usize = 0;
-    while i < a.len() {
-        if field::byte(a, i, 0) != field::byte(b, i, 0) {
-            return false;
-        }
-        i = i + 1;
-    }
-    true
-}
-
-// The answer, and whether the buffer then holds the right bytes.
-fn written(rt: &impl Print, w: Written, out: &[u8], right: &[u8]) -> io::Result<()> {
-    value(rt, b" into ", out.len() as u64)?;
-    answer(rt, b"", w.refusal)?;
-    value(rt, b", written ", w.length as u64)?;
-    if same(out, right) {
-        say(rt, b", same\n")
-    } else {
-        say(rt, b", differs\n")
-    }
+// What a writer answered, and whether the buffer then holds the right bytes.
+fn written(
+    rt: &impl Print,
+    name: impl Display + Drop,
+    outcome: Result<usize, Reason>,
+    out: &[u8],
+    right: &[u8],
+) -> io::Result<()> {
+    let room = out.len();
+    let length = outcome.unwrap_or(0);
+    let found = if out == right { "same" } else { "differs" };
+    println!(rt;
+        "{name} into {room}: {}, written {length}, {found}",
+        Answer::of(outcome)
+    )
 }
 
 fn write_setup(
     rt: &impl Print,
-    name: &[u8],
-    t: Table,
+    name: &str,
+    t: &Table,
     out: &mut [u8],
     right: &[u8],
 ) -> io::Result<()> {
-    let w = setup::write(t, out);
-    say(rt, name)?;
-    written(rt, w, out, right)
+    written(rt, name, setup::write(t, out), out, right)
 }
 
+// A number and no kind: the writer refuses those that are none.
 fn write_message(rt: &impl Print, kind: u8, out: &mut [u8], right: &[u8]) -> io::Result<()> {
-    let w = message::write(kind, 0, 8, out);
-    value(rt, b"kind ", kind as u64)?;
-    written(rt, w, out, right)
+    let outcome = message::write(kind, 0, 8, out);
+    written(rt, format_args!("kind {kind}"), outcome, out, right)
+}
+
+// The table of a setup that is not refused.
+fn table_of(s: &[u8]) -> Table {
+    setup::read(s).unwrap_or(Table::zero())
 }
 
 // "Writers leave bytes past the output unchanged": they are 255 here.
 fn tables(rt: &impl Print) -> io::Result<()> {
     let s = worked();
-    let r = setup::read(&s);
-    let t = r.table;
+    let t = table_of(&s);
     let mut right = [255; 51];
-    copy(&s, &mut right, 50);
-    write_setup(rt, b"worked", t, &mut [255; 49], &[255; 49])?;
-    write_setup(rt, b"worked", t, &mut [255; 50], &s)?;
-    write_setup(rt, b"worked", t, &mut [255; 51], &right)
+    right[..50].copy_from_slice(&s);
+    write_setup(rt, "worked", &t, &mut [255; 49], &[255; 49])?;
+    write_setup(rt, "worked", &t, &mut [255; 50], &s)?;
+    write_setup(rt, "worked", &t, &mut [255; 51], &right)
 }
 
 // A setup with a polling server (kind 3) is written as it was read.
 fn polling_table(rt: &impl Print) -> io::Result<()> {
     let mut s = worked();
-    server(&mut s, 4, 3, 1, 4, 2);
-    let r = setup::read(&s);
-    write_setup(rt, b"polling", r.table, &mut [255; 50], &s)
+    Server(3, 1, 4, 2).put(&mut s, 4);
+    write_setup(rt, "polling", &table_of(&s), &mut [255; 50], &s)
 }
 
 fn longest_table(rt: &impl Print) -> io::Result<()> {
     let mut s = [255; 917];
     longest(&mut s, 916);
-    let r = setup::read(front(&s, 916));
-    let t = r.table;
-    write_setup(rt, b"longest", t, &mut [255; 915], &[255; 915])?;
-    write_setup(rt, b"longest", t, &mut [255; 917], &s)
+    let t = table_of(front(&s, 916));
+    write_setup(rt, "longest", &t, &mut [255; 915], &[255; 915])?;
+    write_setup(rt, "longest", &t, &mut [255; 917], &s)
 }
 
 // "31 comes first everywhere, 32 last.": into a buffer that is too short as well, and into one that is not.
-fn write_unsound(rt: &impl Print, name: &[u8], t: Table) -> io::Result<()> {
+fn write_unsound(rt: &impl Print, name: &str, t: &Table) -> io::Result<()> {
     write_setup(rt, name, t, &mut [255; 3], &[255; 3])?;
     write_setup(rt, name, t, &mut [255; 51], &[255; 51])
 }
 
 // "A table alone is sound if its values are in range and its unused entries zero."
 fn unsound_tables(rt: &impl Print) -> io::Result<()> {
-    write_unsound(rt, b"0 servers", Table::zero())?;
-    let r = setup::read(&worked());
-    let mut t = r.table;
-    t.count = 1;
-    write_unsound(rt, b"unused entry not zero", t)?;
-    t.count = 3;
-    write_unsound(rt, b"used entry zero", t)?;
-    t.count = 9;
-    write_unsound(rt, b"9 servers", t)
+    let t = table_of(&worked());
+    write_unsound(rt, "0 servers", &Table::zero())?;
+    write_unsound(rt, "unused entry not zero", &Table { count: 1, ..t })?;
+    write_unsound(rt, "used entry zero", &Table { count: 3, ..t })?;
+    write_unsound(rt, "9 servers", &Table { count: 9, ..t })
 }
 
 // No server has kind 4.
 fn unsound_kind(rt: &impl Print) -> io::Result<()> {
-    let r = setup::read(&worked());
-    let mut t = r.table;
+    let mut t = table_of(&worked());
     t.servers[0].kind = 4;
-    write_unsound(rt, b"server of kind 4", t)
+    write_unsound(rt, "server of kind 4", &t)
 }
 
 // "The message writer takes any two bytes; a kind not 1 or 2 is 17."

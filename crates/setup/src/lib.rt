@@ -1,7 +1,8 @@
 // The reader and the writer of the setup file: document 01, "Files and messages".
 #![tactic(auto)]
 
-ghost use Rattle.std.specs.Prelude.{◌≡◌, ℕ, List, true, ltb, not, eqb, ◌++◌, ◌+◌, ◌≤◌, ◌<◌, length, drop, take, ⊤, OnOk, IfOk};
+ghost use Rattle.std.specs.Prelude.{◌≡◌, ℕ, List, true, false, ltb, not, ◌+◌, ◌≤◌, ◌<◌, length, drop, ⊤, OnOk, IfOk};
+ghost use Rattle.std.specs.Range.{range_inclusive_start, range_inclusive_end, range_inclusive_exhausted};
 ghost use Rattle.small.specs.Small.{pick, each, padded, All};
 ghost use Rattle.refusal.specs.Numbers.{record_cut};
 ghost use Rattle.refusal.specs.Refusal.{none, first_of, refused, Check};
@@ -13,7 +14,7 @@ ghost use Rattle.queue.specs.Limits.{longest};
 ghost use Rattle.table.specs.Limits.{most_work, entries};
 ghost use Rattle.table.specs.Table.{zero_task, zero_server};
 ghost use Rattle.table.specs.Sound.{rangeb, tableb};
-ghost use Rattle.setup.specs.Layout.{task_bytes, server_bytes, record_bytes, bytes_of};
+ghost use Rattle.setup.specs.Layout.{task_bytes, server_bytes, bytes_of};
 ghost use Rattle.setup.specs.Read.{task_size, task_checks, task_of, head_size, head_checks, server_checks, server_of, server_size, start_checks, reading_by, read_of};
 ghost use Rattle.setup.specs.Write.{write_refusal, written_to};
 ghost use Rattle.setup.specs.Moves.{head_of, all_checks, all_given, all_size, task_numbered, server_numbered};
@@ -75,7 +76,7 @@ impl Reader<'_> {
         if self.take::<u8>() != VERSION {
             return Err(Reason::SetupVersion.at(2));
         }
-        let count = self.number::<u8>(1, Table::ENTRIES as u32, Reason::ServerCount)?;
+        let count = self.number::<u8>(1..=Table::ENTRIES as u32, Reason::ServerCount)?;
         Ok(count as usize)
     }
 
@@ -90,9 +91,9 @@ impl Reader<'_> {
         let place = self.at;
         self.whole(HEAD)?;
         let kind = Kind::try_from(self.take::<u8>()).map_err(|reason| reason.at(place))?;
-        let count = self.number::<u8>(0, Table::ENTRIES as u32, Reason::TaskCount)?;
-        let period = self.number::<u32>(1, Queue::LONGEST, Reason::PeriodRange)?;
-        let budget = self.number::<u32>(1, period, Reason::BudgetRange)?;
+        let count = self.number::<u8>(0..=Table::ENTRIES as u32, Reason::TaskCount)?;
+        let period = self.number::<u32>(1..=Queue::LONGEST, Reason::PeriodRange)?;
+        let budget = self.number::<u32>(1..=period, Reason::BudgetRange)?;
         Ok(Server {
             tasks: [Task::zero(); Table::ENTRIES],
             count: count as usize,
@@ -126,16 +127,17 @@ impl Reader<'_> {
     }
 
     /// The next field, refused at its place where its number is out of a range.
-    fn number<T: Field>(&mut self, least: u32, most: u32, reason: Reason) -> Result<u32, Fault>
-        requires { T.WIDTH ≤ length self.old.rest.now }
-        ensures refusal { fault_in result ≡ pick (not (rangeb least most (field_of T.WIDTH self.old.rest.now))) (refused (number_of reason) self.old.at) none }
+    fn number<T: Field>(&mut self, range: RangeInclusive<u32>, reason: Reason) -> Result<u32, Fault>
+        requires room { T.WIDTH ≤ length self.old.rest.now }
+        requires unused { range_inclusive_exhausted range ≡ false }
+        ensures refusal { fault_in result ≡ pick (not (rangeb (range_inclusive_start range) (range_inclusive_end range) (field_of T.WIDTH self.old.rest.now))) (refused (number_of reason) self.old.at) none }
         ensures value { IfOk result (λ n. n ≡ field_of T.WIDTH self.old.rest.now) }
         ensures at { self.new.at ≡ self.old.at + T.WIDTH }
         ensures rest { self.new.rest.now ≡ drop T.WIDTH self.old.rest.now }
     {
         let place = self.at;
         let n = self.take::<T>().wide();
-        if n < least || most < n {
+        if !range.contains(&n) {
             return Err(reason.at(place));
         }
         Ok(n)
@@ -144,14 +146,19 @@ impl Reader<'_> {
 
 /// What a setup has many of, one behind the other: servers, and the tasks of a server.
 trait Record: Copy {
+    /// Its tests, where it begins at a place.
     ghost checks: { ℕ → List ℕ → List Check };
 
+    /// What its bytes are read as.
     ghost gives: { List ℕ → Self };
 
+    /// How many bytes it takes of those from its first on.
     ghost span: { List ℕ → ℕ };
 
+    /// What stands in an entry that is not in use.
     ghost empty: { Self };
 
+    /// The bytes that are written, of a record that can be.
     ghost bytes: { Self → List ℕ };
 
     ghost fit: { Self → Type 0 };
@@ -212,19 +219,19 @@ impl Record for Task {
         Task::zero()
     }
 
-    #[tactic(auto, unfolding(crate::specs::Read::task_checks, crate::specs::Read::task_of))]
+    #[tactic(auto, unfolding(crate::specs::Read::task_of, crate::specs::Read::task_checks))]
     fn read(r: &mut Reader) -> Result<Task, Fault> {
         r.whole(TASK)?;
-        let release = r.number::<u8>(0, 1, Reason::ReleaseKind)?;
-        let work = r.number::<u32>(1, Table::MOST_WORK, Reason::WorkRange)?;
+        let release = r.number::<u8>(0..=1, Reason::ReleaseKind)?;
+        let work = r.number::<u32>(1..=Table::MOST_WORK, Reason::WorkRange)?;
         // On arrival T and O are 0.
-        let (least, most) = if release == 0 {
-            (0, 0)
+        let (periods, offsets) = if release == 0 {
+            (0..=0, 0..=0)
         } else {
-            (1, Queue::LONGEST)
+            (1..=Queue::LONGEST, 0..=Queue::LONGEST)
         };
-        let period = r.number::<u32>(least, most, Reason::ReleaseTimes)?;
-        let offset = r.number::<u32>(0, most, Reason::ReleaseTimes)?;
+        let period = r.number::<u32>(periods, Reason::ReleaseTimes)?;
+        let offset = r.number::<u32>(offsets, Reason::ReleaseTimes)?;
         let release = if release == 0 {
             Release::OnArrival
         } else {

@@ -2,220 +2,170 @@
 // line says; here bytes are read, handed over and written, in large pieces.
 #![tactic(auto)]
 
-ghost use Rattle.std.specs.Prelude.{◌≤◌, length};
-
 use desk::Desk;
-use field::Written;
 use lines::Line;
 use message::Message;
+use refusal::Reason;
+use state::State;
 use std::io;
 use std::io::Read;
 
-// The bytes of messages that are read at a time: whole messages.
+// What is read at a time: whole messages.
 const CHUNK: usize = Message::LENGTH * 10_000;
 
-// The desk's run, the place of the next message in the input, and how far the output buffer is filled. `going`: the program goes on.
-#[derive(Clone, Copy)]
-struct Run {
-    desk: Desk,
-    place: u64,
-    at: usize,
-    going: bool,
+// A setup's length is stated in two bytes.
+const INPUT: usize = 65_536;
+
+// What is written at a time, at most.
+const OUTPUT: usize = 65_536;
+
+// Why the program ends before its input does.
+#[derive(Drop)]
+enum Stop {
+    // Its last line is written: a refusal's.
+    Refused,
+    // A line found no room; `spare` keeps that from happening.
+    NoRoom,
+    // A write failed.
+    Failed(io::Error),
 }
 
-// How far the output buffer is filled. `going`: the line found room.
-#[derive(Clone, Copy)]
-struct Space {
-    at: usize,
-    going: bool,
-}
-
-fn with(desk: Desk, place: u64, at: usize, going: bool) -> Run {
-    Run {
-        desk: desk,
-        place: place,
-        at: at,
-        going: going,
+impl From<io::Error> for Stop {
+    fn from(e: io::Error) -> Stop {
+        Stop::Failed(e)
     }
 }
 
-// Writes the first n bytes out, or all where there are fewer.
-fn write(rt: &impl Print, out: &[u8], n: usize) -> io::Result<()> {
-    let end = small::least(n, out.len());
-    rt.write_all(&out[..end])
+// Lines that wait for being written out: the first `at` bytes of the buffer. No heap is a rule of the project: the buffer is an array, and how far it is filled
+// stands beside it.
+#[derive(Drop)]
+struct Output<'a, P: Print> {
+    rt: &'a P,
+    buffer: [u8; OUTPUT],
+    at: usize,
 }
 
-// Writes out what the buffer holds, where it may not have room for a batch of lines, and gives how far the buffer is filled then.
-fn spare(rt: &impl Print, out: &[u8], at: usize) -> io::Result<usize> {
-    if at
-        <= small::least(
-            out.len(),
-            out.len() - small::least(lines::BATCH_ROOM, out.len()),
-        )
+impl<P: Print> Output<'_, P> {
+    // Writes out what the buffer holds.
+    fn flush(&mut self) -> io::Result<()> {
+        let end = self.at.min(OUTPUT);
+        self.rt.write_all(&self.buffer[..end])?;
+        self.at = 0;
+        Ok(())
+    }
+
+    // Writes out what the buffer holds, where it may not have room for a batch of lines.
+    fn spare(&mut self) -> io::Result<()> {
+        if OUTPUT - lines::BATCH_ROOM < self.at {
+            self.flush()?;
+        }
+        Ok(())
+    }
+
+    // Puts lines behind what the buffer holds: the sum is a place in the buffer, so it does not wrap.
+    fn put<F: FnOnce(&mut [u8], usize) -> Result<usize, Reason>>(
+        &mut self,
+        lines: F,
+    ) -> Result<(), Stop>
+        requires { F.IsAlwaysCallable lines }
     {
-        return Ok(at);
+        let n = lines(&mut self.buffer, self.at).map_err(|_| Stop::NoRoom)?;
+        self.at = self.at.wrapping_add(n);
+        Ok(())
     }
-    write(rt, out, at)?;
-    Ok(0)
-}
 
-// How far the buffer is filled behind what was written from a place on: the sum is a place in the buffer, so it does not wrap. A line that found no room ends
-// the program; `spare` keeps that from happening.
-fn behind(at: usize, w: Written) -> Space {
-    let refusal = w.refusal;
-    Space {
-        at: at.wrapping_add(w.length),
-        going: refusal.number == 0,
+    // Writes out what the buffer holds and a refusal's line behind it: the program's last.
+    fn refuse(&mut self, reason: Reason, place: u64) -> Result<(), Stop> {
+        let line = Line::Refused(reason.number(), place);
+        self.put(|out, at| lines::message_line(out, at, line))?;
+        self.flush()?;
+        Err(Stop::Refused)
     }
-}
 
-// Writes out what the buffer holds and a refusal's line behind it: the program's last.
-fn refuse(rt: &impl Print, out: &mut [u8], at: usize, number: u8, place: u64) -> io::Result<()> {
-    let w = lines::message_line(out, at, Line::Refused(number, place));
-    let s = behind(at, w);
-    write(rt, out, s.at)
-}
-
-// The ticks that are left of the message at a place, batch after batch. The next message stands behind it.
-fn ticks(rt: &impl Print, out: &mut [u8], desk: Desk, place: u64, from: usize) -> io::Result<Run> {
-    let mut d = desk;
-    let mut at = from;
-    while 0 < d.left {
-        let s = spare(rt, out, at)?;
-        let b = desk::run_on(d);
-        let refusal = b.refusal;
-        d = b.desk;
-        if refusal.number != 0 {
-            refuse(rt, out, s, refusal.number, place)?;
-            return Ok(with(d, place, 0, false));
+    // The message at a place, and then its ticks, batch after batch.
+    fn message(&mut self, desk: &mut Desk, place: u64, bytes: &[u8]) -> Result<(), Stop> {
+        self.spare()?;
+        match desk.message(place, bytes) {
+            Ok(line) => self.put(|out, at| lines::message_line(out, at, line))?,
+            Err(reason) => return self.refuse(reason, place),
         }
-        let answers = b.answers;
-        let t = behind(s, lines::ticks(out, s, b.first, answers, b.count));
-        if !t.going {
-            return Ok(with(d, place, 0, false));
+        while 0 < desk.left {
+            self.spare()?;
+            match desk.run_on() {
+                Ok(ran) => self.put(|out, at| lines::ticks(
+                    out,
+                    at,
+                    ran.first,
+                    &ran.answers[..ran.count.min(State::BATCH)],
+                ))?,
+                Err(reason) => return self.refuse(reason, place),
+            }
         }
-        at = t.at;
+        Ok(())
     }
-    Ok(with(d, place.wrapping_add(Message::LENGTH as u64), at, true))
+
+    // At the end of the input the last line is written.
+    fn end(&mut self, desk: &Desk) -> Result<(), Stop> {
+        self.spare()?;
+        self.put(|out, at| lines::end(out, at, desk.ran))?;
+        self.flush()?;
+        Ok(())
+    }
 }
 
-fn one_message(rt: &impl Print, bytes: &[u8], out: &mut [u8], r: Run) -> io::Result<Run> {
-    let s = spare(rt, out, r.at)?;
-    let d = r.desk;
-    let m = desk::message(d, r.place, bytes);
-    let l = m.line;
-    let t = behind(s, lines::message_line(out, s, l));
-    let next = m.desk;
-    if m.stop {
-        write(rt, out, t.at)?;
-        return Ok(with(next, r.place, 0, false));
+// As many bytes as the first two say, or all there are.
+fn read_setup<'a>(reader: &mut impl Read, input: &'a mut [u8; INPUT]) -> &'a [u8] {
+    let head = console::read_full(reader, &mut input[..2]);
+    let stated = usize::from(field::read::<u16>(input, 0));
+    if head < 2 || stated < 2 {
+        return &input[..head.min(stated)];
     }
-    if !t.going {
-        return Ok(with(next, r.place, 0, false));
-    }
-    ticks(rt, out, next, r.place, t.at)
+    let rest = console::read_full(reader, &mut input[2..stated]);
+    &input[..2 + rest]
 }
 
-// The messages of a chunk; the last may be cut.
-fn chunk(rt: &impl Print, bytes: &[u8], out: &mut [u8], r: Run) -> io::Result<Run> {
-    let mut run = r;
-    let mut i: usize = 0;
-    while i < bytes.len() {
-        let end = i + small::least(bytes.len() - i, Message::LENGTH);
-        run = one_message(rt, &bytes[i..end], out, run)?;
-        if !run.going {
-            return Ok(run);
+// The messages from a place of the input on; the last may be cut. A proved loop has to end, and nothing says that the input does: no run uses up so many turns.
+fn messages<P: Print>(
+    reader: &mut impl Read,
+    input: &mut [u8; INPUT],
+    out: &mut Output<P>,
+    desk: &mut Desk,
+    from: u64,
+) -> Result<(), Stop> {
+    let mut place = from;
+    for _ in 0..u64::MAX {
+        let n = console::read_full(reader, &mut input[..CHUNK]);
+        for bytes in input[..n].chunks(Message::LENGTH) {
+            out.message(desk, place, bytes)?;
+            place = place.wrapping_add(Message::LENGTH as u64);
         }
-        i = end;
-    }
-    Ok(run)
-}
-
-// At the end of the input the last line is written.
-fn finish(rt: &impl Print, out: &mut [u8], r: Run) -> io::Result<()> {
-    let s = spare(rt, out, r.at)?;
-    let d = r.desk;
-    let t = behind(s, lines::end(out, s, d.ran));
-    write(rt, out, t.at)
-}
-
-// Reads until the buffer is full, the input ends or a read fails, and gives how many bytes it put at the buffer's start.
-fn read_full(rt: &impl Input, buffer: &mut [u8]) -> usize
-    ensures { result ≤ length buffer.new }
-{
-    let mut reader = rt.reader();
-    let mut done = 0;
-    while done < buffer.len() {
-        let n = reader.read(&mut buffer[done..]).unwrap_or(0);
-        if n == 0 {
-            break;
+        if n < CHUNK {
+            return out.end(desk);
         }
-        done = done + n;
-    }
-    done
-}
-
-// One chunk read and handed over.
-fn turn(rt: &(impl Input + Print), input: &mut [u8], out: &mut [u8], r: Run) -> io::Result<Run> {
-    let most = small::least(CHUNK, input.len());
-    let n = small::least(read_full(rt, &mut input[..most]), input.len());
-    let run = chunk(rt, &input[..n], out, r)?;
-    if !run.going {
-        return Ok(run);
-    }
-    if most <= n {
-        return Ok(run);
-    }
-    finish(rt, out, run)?;
-    let d = run.desk;
-    Ok(with(d, run.place, 0, false))
-}
-
-// A proved loop has to end, and nothing says that the input does: the turns are counted down from a number that no run uses up.
-fn messages(rt: &(impl Input + Print), input: &mut [u8], out: &mut [u8], r: Run) -> io::Result<()> {
-    let mut run = r;
-    let mut turns = u64::MAX;
-    while 0 < turns {
-        run = turn(rt, input, out, run)?;
-        if !run.going {
-            return Ok(());
-        }
-        turns = turns - 1;
     }
     Ok(())
 }
 
-// As many bytes as the first two say, or all there are.
-fn read_setup(rt: &impl Input, input: &mut [u8]) -> usize {
-    let two = small::least(2, input.len());
-    let head = read_full(rt, &mut input[..two]);
-    let stated = small::least(field::two(input, 0, 0) as usize, input.len());
-    if stated <= two {
-        return small::least(stated, head);
+fn program(rt: &(impl Input + Print)) -> Result<(), Stop> {
+    let mut reader = rt.reader();
+    let mut input = [0; INPUT];
+    let setup = read_setup(&mut reader, &mut input);
+    let place = setup.len() as u64;
+    let mut out = Output {
+        rt,
+        buffer: [0; OUTPUT],
+        at: 0,
+    };
+    out.put(|out, at| lines::header(out, at))?;
+    match Desk::open(setup) {
+        Ok(mut desk) => messages(&mut reader, &mut input, &mut out, &mut desk, place),
+        Err(fault) => out.refuse(fault.reason, fault.place as u64),
     }
-    if head < two {
-        return head;
-    }
-    head + read_full(rt, &mut input[two..stated])
-}
-
-fn program(rt: &(impl Input + Print), input: &mut [u8], out: &mut [u8]) -> io::Result<()> {
-    let n = small::least(read_setup(rt, input), input.len());
-    let o = desk::open(&input[..n]);
-    let t = behind(0, lines::header(out, 0));
-    if !t.going {
-        return Ok(());
-    }
-    let r = o.refusal;
-    if r.number != 0 {
-        return refuse(rt, out, t.at, r.number, r.place as u64);
-    }
-    let d = o.desk;
-    messages(rt, input, out, with(d, n as u64, t.at, true))
 }
 
 fn main(rt: HostRuntime) -> io::Result<()> {
-    let mut input = [0; 65_536];
-    let mut out = [0; 65_536];
-    program(&rt, &mut input, &mut out)
+    match program(&rt) {
+        Ok(()) | Err(Stop::Refused | Stop::NoRoom) => Ok(()),
+        Err(Stop::Failed(e)) => Err(e),
+    }
 }

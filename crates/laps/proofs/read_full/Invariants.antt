@@ -1,9 +1,0 @@
--- `laps::read_full` is safe and ends: each read that goes on puts at least one byte more.
-use Rattle.std.proofs.Common.{◌-◌, ◌≤◌, length}
-use Rattle.laps.proofs.read_full.Given as goal
-
-abbrev pub invariant-loop-done : goal.invariant-loop-done
-invariant-loop-done g l = l.done ≤ length l.buffer
-
-abbrev pub decreases-loop-done : goal.decreases-loop-done
-decreases-loop-done g l = length l.buffer - l.done

@@ -1,9 +1,0 @@
--- `trace::chunk` is safe and ends: i goes up to the length, by at least one byte a turn.
-use Rattle.std.proofs.Common.{◌-◌, ◌≤◌, length}
-use Rattle.trace.proofs.chunk.Given as goal
-
-abbrev pub invariant-loop-i : goal.invariant-loop-i
-invariant-loop-i g l = l.i ≤ length l.bytes
-
-abbrev pub decreases-loop-i : goal.decreases-loop-i
-decreases-loop-i g l = length l.bytes - l.i

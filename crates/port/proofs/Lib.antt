@@ -5,8 +5,8 @@ pub mod RoundTrip
 pub mod Again
 -- WHAT ONLY SERVES
 pub mod Many
+pub mod Calls
 pub mod Storing
-pub mod Places
 pub mod Sizing
 pub mod Ranges
 pub mod Answering

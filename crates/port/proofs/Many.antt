@@ -2,12 +2,14 @@
 -- before the one at i. Over any kind of thing, its size in words, its reader g and its words f. Assumes nothing.
 use mathlib.Core.Path.{◌≡◌, refl, sym, ap, ◌∙◌}
 use mathlib.Core.List.{List, [], ◌∷◌, ◌++◌, append_assoc, append-nil}
-use Prim.Native.Nat.{ℕ, zero, suc, ◌+◌, ◌*◌, ◌≤◌, ◌<◌}
+use Prim.Native.Nat.{ℕ, zero, suc, ◌+◌, ◌-◌, ◌*◌, ◌≤◌, ◌<◌}
 use native.Mathlib.Nat.{add-zero, mul-zero, mul-suc, mul-le-mul_left, add_comm, not-suc-le-zero}
 use native.Mathlib.Numerals.{add-one}
 use native.Mathlib.Omega.{arith}
-use lib.ListN.{length, take, drop, get_or, set, replicate, length-drop, length-set, length-replicate}
-use lib.Seq.{take_all, take-add, take-suc-set, drop_at, drop-length, drop-drop, get_or-drop, length-take-le}
+use lib.ListN.{length, take, drop, get_or, set, replicate, length-append, length-drop, length-set, length-replicate}
+use borrow.Rule.Slice.PartMut.{put_mid}
+use lib.Seq.{take_at, take_all, take-add, take-suc-set, drop_at, drop-length, drop-drop, get_or-drop, length-take-le}
+use Rattle.std.proofs.lemmas.List.{ext_get_or}
 use Rattle.small.proofs.All.{all_at, all_first}
 use Rattle.small.specs.Small.{each, All}
 use Rattle.small.proofs.Each.{Sizes, each_more, each_length}
@@ -25,6 +27,10 @@ word_at k at w = get_or-drop at w k 0
 
 pub word_here : (at : ℕ) (w : List ℕ) → get_or w at 0 ≡ word 0 (drop at w)
 word_here at w = rw (get_or-drop, add-zero)
+
+-- the words from a place on, as the code takes them
+pub behind_place : (k : ℕ) (w : List ℕ) → take (length w - k) (drop k w) ≡ drop k w
+behind_place k w = take_all (length w - k) (drop k w) (rw length-drop (omega arith))
 
 -- READING
 
@@ -45,6 +51,15 @@ module _ {A : Type 0} (size : ℕ) (g : List ℕ → A) where
   many_more (suc i) ws =
       let e : suc i + 1 ≡ suc (i + 1) = omega arith in
       rw (e, many_more i (drop size ws), drop-drop, next_place)
+
+  -- so many, of which the one at each place is that
+  pub many_is : (n : ℕ) (ws : List ℕ) (xs : List A) → length xs ≡ n → ((i : ℕ) (z : A) → i < n → get_or xs i z ≡ g (drop (size * i) ws)) → xs ≡ many_in size g n ws
+  many_is zero ws [] l h = refl
+  many_is zero ws (x ∷ xs) l h = absurd (omega arith)
+  many_is (suc n) ws [] l h = absurd (omega arith)
+  many_is (suc n) ws (x ∷ xs) l h =
+      ext_get_or x (x ∷ xs) (many_in size g (suc n) ws) (l ∙ sym (many_count (suc n) ws))
+      (λ i k. h i x (omega arith) ∙ sym (many_at (suc n) i ws x (omega arith)))
 
   -- A loop that reads the n things from the place `at` of the words w on into an array xs: before the one at i, the first i are read
   pub record Read (n at : ℕ) (w : List ℕ) (xs : List A) (i : ℕ) : Type 0 where
@@ -158,3 +173,27 @@ module _ {A : Type 0} (size : ℕ) (f : A → List ℕ) (g : List ℕ → A) whe
     many_held (suc n) ws h a =
         let m : size + size * n ≤ length ws = rw (← next_place size n) h in
         rw (next_place, take-add size (size * n) ws, held ws (omega arith) a.0, many_held n (drop size ws) (rw length-drop (omega arith)) a.1)
+
+-- A LOOP THAT WRITES the words of the things xs, each of the size, over a buffer: before the one at i, those of the first i are written, and so many words
+module _ {A : Type 0} (f : A → List ℕ) (size : ℕ) (xs : List A) (buf : List ℕ) where
+  pub record Put (i : ℕ) (out : List ℕ) : Type 0 where
+    pub words : out ≡ each f (take i xs) ++ drop (size * i) buf
+    pub long : length (each f (take i xs)) ≡ size * i
+
+module _ {A : Type 0} {f : A → List ℕ} {size : ℕ} {xs : List A} {buf : List ℕ} {i : ℕ} {out : List ℕ} (p : Put f size xs buf i out) where
+  -- the words of the one at i are put at their place
+  pub put_more : (x : A) (new : List ℕ) (a k : ℕ) → i < length xs → x ≡ get_or xs i x → new ≡ f x → length new ≡ size → a ≡ size * i → k ≡ size
+      → Put f size xs buf (i + 1) (put_mid a k out new)
+  put_more x new a k h e n l q r =
+      let before = each f (take i xs) in
+      let rest = drop (size * i) buf in
+      let more : each f (take (i + 1) xs) ≡ before ++ f x = rw (each_more f xs i x h, ← e) in
+      let one : i + 1 ≡ suc i = omega arith in
+      let next : size * (i + 1) ≡ size * i + size = rw one (mul-suc size i) in
+      let behind : drop size (drop (size * i) (before ++ rest)) ≡ drop (size * (i + 1)) buf =
+      rw (drop_at before rest (size * i) p.long, drop-drop, next) in
+      let front : take (size * i) (before ++ rest) ≡ before = take_at before rest (size * i) p.long in
+      record {
+        words = rw (p.words, q, r, n, front, behind, more) (sym (append_assoc before (f x) _));
+        long = rw (more, length-append, p.long, ← n, l, next);
+      }

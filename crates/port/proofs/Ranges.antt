@@ -1,5 +1,5 @@
 -- What the soundness of a table and of a state says of each of their parts, used or not: enough that its words hold it. Assumes nothing.
-use mathlib.Core.Path.{◌≡◌, refl, ap}
+use mathlib.Core.Path.{◌≡◌, refl, ap, sym}
 use mathlib.Core.Bool.{true}
 use mathlib.Core.List.{List, [], ◌∷◌}
 use mathlib.Core.Logic.{⊎_elim}
@@ -11,7 +11,7 @@ use lib.Seq.{take-length}
 use borrow.Author.Tests.{leb-true, eqb-true}
 use Rattle.small.proofs.Tests.{both_left, both_right}
 use Rattle.small.specs.Small.{All}
-use Rattle.small.proofs.All.{all_take}
+use Rattle.small.proofs.All.{all_take, all_at, all_both}
 use Rattle.small.proofs.Used.{used_all}
 use Rattle.queue.specs.Limits.{cell_count, max_gap, longest}
 use Rattle.queue.specs.Sound.{soundb}
@@ -33,7 +33,12 @@ use Rattle.state.specs.declared.Load.{Load}
 use Rattle.state.specs.declared.Entry.{Entry}
 use Rattle.state.specs.declared.State.{State}
 use Rattle.state.proofs.Stated.{held, entry_stated, stated}
+use Rattle.refusal.specs.Refusal.{none}
+use Rattle.refusal.specs.declared.Refusal.{Refusal}
+use Rattle.port.specs.Exports.{budget_refusal}
+use Rattle.port.proofs.Refusals.{budget_accepted}
 use Rattle.port.specs.Layout.{word_limit}
+use Rattle.port.specs.Words.{TableFits, StateFits}
 use Rattle.port.proofs.Storing.{sound_few}
 use Rattle.port.proofs.Sizing.{FullEntry, FullServer, FullState, sized_full}
 
@@ -176,3 +181,30 @@ sound_state_full s z h =
       count = n;
       entries = rw take-length at (all_take FullEntry zero_entry s.entries (length s.entries) (omega arith) each);
     }
+
+-- WHAT IS SOUND FITS INTO WORDS
+
+pub table_fits : (t : Table) → tableb longest most_work t ≡ true → TableFits t
+table_fits t h =
+    let r = table_range t h in
+    record { count = omega (arith, r.count); servers = all_both {P = ServerRange} {Q = ServerRange} (λ s p _. omega (arith, p.count)) t.servers r.servers r.servers }
+
+pub state_fits : (s : State) → SizedState s → stateb s ≡ true → StateFits s
+state_fits s z h =
+    let r = state_range s (sound_state_full s z h) h in
+    record {
+      table = table_fits s.table (table_of_lem s h);
+      refills = queue_few s.refills r.refills;
+      entries = all_both {P = EntryRange} {Q = EntryRange} (λ e p _. queue_few e.arrivals p.arrivals) s.entries r.entries r.entries;
+    }
+
+-- A SERVER WHOSE BUDGET IS READ: the state is sound, and so there are few servers, and few tasks of each
+module _ (s : State) (i : ℕ) (e : none ≡ budget_refusal s i) where
+  passed : (stateb s ≡ true) × (i < s.table.count)
+  passed = (budget_accepted s i).0 (ap (λ (r : Refusal). r.number) (sym e))
+
+  pub place_few : i < entries
+  place_few = omega (arith, passed.1, (table_range s.table (table_of_lem s passed.0)).count)
+
+  pub tasks_few : (z : Server) → length s.table.servers ≡ entries → (get_or s.table.servers i z).count ≤ entries
+  tasks_few z l = (all_at ServerRange z s.table.servers (table_range s.table (table_of_lem s passed.0)).servers i (omega (arith, l, place_few))).count

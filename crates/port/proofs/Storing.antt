@@ -1,6 +1,6 @@
 -- What lent memory holds behind a call, and is read as: where the call is accepted what it gives, and where it is refused what the memory held; and that the
 -- queue of an accepted call can be stored. Assumes nothing.
-use mathlib.Core.Path.{◌≡◌, refl, sym, ap, ◌∙◌}
+use mathlib.Core.Path.{◌≡◌, refl}
 use mathlib.Core.Bool.{Bool, true, false}
 use mathlib.Core.List.{List, [], ◌∷◌}
 use mathlib.Core.Logic.{◌≢◌}
@@ -11,22 +11,22 @@ use lib.ListN.{length}
 use borrow.Author.Tests.{ne_eqb, eqb-true, eqb-false}
 use Rattle.small.specs.Small.{pick}
 use Rattle.small.proofs.Each.{sizes_of, each_length}
+use Rattle.std.specs.Prelude.{Result, Ok, Err, IfOk, ⊤}
+use Rattle.refusal.specs.declared.Reason.{Reason}
+use Rattle.refusal.specs.Reason.{number_of}
+use Rattle.refusal.proofs.Reasons.{refusal_in_one}
 use Rattle.refusal.specs.declared.Refusal.{Refusal}
-use Rattle.field.specs.Field.{over}
 use Rattle.queue.specs.Limits.{cell_count, max_gap, longest}
 use Rattle.queue.specs.Sound.{soundb}
-use Rattle.queue.specs.Calls.{insert_of, remove_of, clock_of, take_of, push_back_of}
+use Rattle.queue.specs.Calls.{Changed, Taken, changed_by, taken_by, insert_of, remove_of, clock_of, take_of, push_back_of}
 use Rattle.queue.specs.declared.Cell.{Cell}
 use Rattle.queue.specs.declared.Queue.{Queue}
-use Rattle.queue.specs.declared.Changed.{Changed}
-use Rattle.queue.specs.declared.Taken.{Taken}
-use Rattle.queue.proofs.SoundLaws.{sound_is, sound_full}
+use Rattle.queue.proofs.SoundLaws.{sound_is}
 use Rattle.queue.proofs.Refusals.{insert_accepted, remove_accepted, clock_accepted, take_accepted, push_back_accepted}
 use Rattle.queue.proofs.Keeps.{insert_sound, remove_sound, clock_sound, take_sound, push_back_sound}
 use Rattle.port.specs.Layout.{word_limit, queue_size}
-use Rattle.port.specs.Words.{cell_word, queue_words}
+use Rattle.port.specs.Words.{cell_word, queue_words, QueueFits}
 use Rattle.port.specs.Exports.{held_after}
-use Rattle.port.proofs.Many.{over_all}
 
 -- ACCEPTED OR REFUSED: x is the answer's refusal, r the definition's
 
@@ -46,6 +46,13 @@ held_again read r new old x accepted refused = go (eqb r.number 0) refl
     go true e = accepted (eqb-true r.number 0 e)
     go false e = refused (eqb-false r.number 0 e)
 
+-- a reason's number is above 0
+pub some_reason : (r : Reason) → number_of r ≢ 0
+some_reason r h = let e : ◌≡◌ {A = Result ⊤ Reason} (Err r) (Ok tt) = refusal_in_one (Err r) (Ok tt) λ i. record { number = h i; place = 0 } in cc
+
+pub number_tested : (r : Reason) → eqb (number_of r) 0 ≡ false
+number_tested r = ne_eqb (number_of r) 0 (some_reason r)
+
 -- QUEUES
 
 -- all the words of a queue with all its cells
@@ -59,37 +66,17 @@ queue_length q h =
 pub sound_few : (q : Queue) → soundb max_gap longest q ≡ true → q.len < word_limit
 sound_few q s = omega (arith, (sound_is max_gap longest q s).short)
 
--- A CALL WHOSE QUEUE IS STORED: x and p are the refusal and the queue that it answered, r and q the definition's. Accepted, the queue's count fits into a word,
--- and its words over the memory are what the memory then holds; refused, that is what it held.
-pub record Stores (r : Refusal) (q : Queue) (x : Refusal) (p : Queue) : Type 0 where
-  pub same : x ≡ r
-  pub few : x.number ≡ 0 → p.len < word_limit
-  pub stored : x.number ≡ 0 → (w out : List ℕ) → length w ≡ queue_size → out ≡ over 0 (queue_words p) w → out ≡ held_after r (queue_words q) w
-  pub kept : (x.number ≡ 0 → ⊥) → (new old : List ℕ) → old ≡ held_after r new old
+-- A CALL WHOSE QUEUE IS STORED: where an accepted one gives a sound queue, that one's count fits into a word
 
--- so it is where an accepted call gives a sound queue
-module _ (r : Refusal) (q : Queue) (sound : r.number ≡ 0 → soundb max_gap longest q ≡ true) (x : Refusal) (p : Queue) (e : x ≡ r) (f : p ≡ q) where
-  is_sound : x.number ≡ 0 → soundb max_gap longest q ≡ true
-  is_sound h = sound (rw (← e) h)
+pub changed_fits : (c : Changed) → (c.refusal.number ≡ 0 → soundb max_gap longest c.queue ≡ true) → (r : Result ⊤ Reason) (q : Queue) → changed_by r q ≡ c
+    → IfOk r (λ _. QueueFits q)
+changed_fits c sound (Ok x) q e = sound_few q (rw (← e) at sound refl)
+changed_fits c sound (Err r) q e = tt
 
-  pub stores : Stores r q x p
-  stores = record {
-    same = e;
-    few = λ h. rw f (sound_few q (is_sound h));
-    stored = λ h w out l o.
-        let whole : length (queue_words q) ≡ length w = queue_length q (sound_full max_gap longest q (sound_is max_gap longest q (is_sound h))) ∙ sym l in
-        o ∙ rw f (over_all (queue_words q) w whole) ∙ sym (held_new x r e (queue_words q) w h);
-    kept = λ h new old. sym (held_old x r e new old h);
-  }
-
--- of a call that answers with a refusal and a queue, and of a take
-module _ (call : Changed) (sound : call.refusal.number ≡ 0 → soundb max_gap longest call.queue ≡ true) (answer : Changed) (e : answer ≡ call) where
-  pub changed_stores : Stores call.refusal call.queue answer.refusal answer.queue
-  changed_stores = stores _ _ sound _ _ (ap (λ (c : Changed). c.refusal) e) (ap (λ (c : Changed). c.queue) e)
-
-module _ (call : Taken) (sound : call.refusal.number ≡ 0 → soundb max_gap longest call.queue ≡ true) (answer : Taken) (e : answer ≡ call) where
-  pub taken_stores : Stores call.refusal call.queue answer.refusal answer.queue
-  taken_stores = stores _ _ sound _ _ (ap (λ (c : Taken). c.refusal) e) (ap (λ (c : Taken). c.queue) e)
+pub taken_fits : (c : Taken) → (c.refusal.number ≡ 0 → soundb max_gap longest c.queue ≡ true) → (r : Result ℕ Reason) (q : Queue) → taken_by r q ≡ c
+    → IfOk r (λ _. QueueFits q)
+taken_fits c sound (Ok x) q e = sound_few q (rw (← e) at sound refl)
+taken_fits c sound (Err r) q e = tt
 
 -- an accepted call's queue is sound: the call before it was on a sound queue
 module _ (q : Queue) where
@@ -107,3 +94,20 @@ module _ (q : Queue) where
 
   pub push_back_gives : let c = push_back_of max_gap longest q in c.refusal.number ≡ 0 → soundb max_gap longest c.queue ≡ true
   push_back_gives h = push_back_sound max_gap longest q ((push_back_accepted max_gap longest q).0 h).0
+
+-- so its count fits into a word
+module _ (q : Queue) (r : Result ⊤ Reason) (x : Queue) where
+  pub insert_fits : (id delay : ℕ) → changed_by r x ≡ insert_of max_gap longest q id delay → IfOk r (λ _. QueueFits x)
+  insert_fits id delay = changed_fits (insert_of max_gap longest q id delay) (insert_gives q id delay) r x
+
+  pub remove_fits : (id : ℕ) → changed_by r x ≡ remove_of max_gap longest q id → IfOk r (λ _. QueueFits x)
+  remove_fits id = changed_fits (remove_of max_gap longest q id) (remove_gives q id) r x
+
+  pub clock_fits : changed_by r x ≡ clock_of max_gap longest q → IfOk r (λ _. QueueFits x)
+  clock_fits = changed_fits (clock_of max_gap longest q) (clock_gives q) r x
+
+  pub push_back_fits : changed_by r x ≡ push_back_of max_gap longest q → IfOk r (λ _. QueueFits x)
+  push_back_fits = changed_fits (push_back_of max_gap longest q) (push_back_gives q) r x
+
+pub take_fits : (q : Queue) (r : Result ℕ Reason) (x : Queue) → taken_by r x ≡ take_of max_gap longest q → IfOk r (λ _. QueueFits x)
+take_fits q r x = taken_fits (take_of max_gap longest q) (take_gives q) r x

@@ -5,15 +5,13 @@ use Rattle.refusal.specs.Numbers.{unsound, no_server, no_task}
 use Rattle.refusal.specs.Refusal.{Check, check, first_of}
 use Rattle.refusal.specs.declared.Refusal.{Refusal}
 use Rattle.queue.specs.Limits.{longest}
-use Rattle.queue.specs.declared.Changed.{Changed}
-use Rattle.queue.specs.declared.Left.{Left}
-use Rattle.queue.specs.declared.Taken.{Taken}
+use Rattle.queue.specs.Calls.{Changed, Left, Taken}
 use Rattle.table.specs.Limits.{most_work}
 use Rattle.table.specs.declared.Table.{Table}
 use Rattle.setup.specs.Layout.{bytes_of}
 use Rattle.setup.specs.Write.{write_refusal}
-use Rattle.setup.specs.declared.Reading.{Reading as SetupReading}
-use Rattle.message.specs.declared.Reading.{Reading}
+use Rattle.setup.specs.Read.{Reading as SetupReading}
+use Rattle.message.specs.Message.{Reading}
 use Rattle.message.specs.declared.Message.{Message}
 use Rattle.message.specs.declared.Message.TheVariants.{Run, Arrival}
 use Rattle.port.specs.Words.{queue_words, load_words, table_words, state_words}
@@ -24,9 +22,8 @@ use Rattle.state.specs.Fresh.{fresh_of}
 use Rattle.state.specs.declared.State.{State}
 use Rattle.state.specs.declared.Choice.{Choice}
 use Rattle.state.specs.declared.Choice.TheVariants.{Idle, Burning, Running}
-use Rattle.scheduler.specs.Arrive.{arrival_number}
-use Rattle.scheduler.specs.declared.Ticked.{Ticked}
-use Rattle.scheduler.specs.declared.Arrived.{Arrived}
+use Rattle.scheduler.specs.Arrive.{Arrived, arrival_number}
+use Rattle.scheduler.specs.Tick.{Ticked}
 
 -- what lent memory holds behind a call: what the call gives, or, where it is refused, what it held
 abbrev pub held_after : Refusal → List ℕ → List ℕ → List ℕ

@@ -1,7 +1,7 @@
 -- What words hold, and the words of what is held. Words that are none of a value's are read as a value that no sound queue, table or state has: a filler of
 -- gap 0, work that no load has, a kind that there is not, a period of 0.
 use Rattle.std.specs.Prelude.{List, [], ◌∷◌, ◌++◌, ℕ, zero, suc, ◌+◌, ◌*◌, ◌/◌, ◌%◌, ◌<◌, ltb, eqb, drop, get_or}
-use Rattle.small.specs.Small.{pick, both, each}
+use Rattle.small.specs.Small.{pick, both, each, All}
 use Rattle.queue.specs.Limits.{cell_count, filler}
 use Rattle.queue.specs.Row.{Event, cell}
 use Rattle.queue.specs.declared.Cell.{Cell}
@@ -17,7 +17,7 @@ use Rattle.state.specs.State.{load}
 use Rattle.state.specs.declared.Load.{Load}
 use Rattle.state.specs.declared.Entry.{Entry}
 use Rattle.state.specs.declared.State.{State}
-use Rattle.port.specs.Layout.{queue_size, load_size, entry_size, task_size, server_size, table_size}
+use Rattle.port.specs.Layout.{word_limit, queue_size, load_size, entry_size, task_size, server_size, table_size}
 
 -- the word at a place; 0 past the end
 abbrev pub word : ℕ → List ℕ → ℕ
@@ -109,3 +109,23 @@ state_in ws = record {
 
 unfoldable pub state_words : State → List ℕ
 state_words s = table_words s.table ++ (queue_words s.refills ++ each entry_words s.entries)
+
+-- WHAT FITS: the counts of a thing, each below what a word can hold, as those of every sound thing are
+
+abbrev pub QueueFits : Queue → Type 0
+QueueFits q = q.len < word_limit
+
+abbrev pub EntryFits : Entry → Type 0
+EntryFits e = QueueFits e.arrivals
+
+abbrev pub ServerFits : Server → Type 0
+ServerFits s = s.count < word_limit
+
+pub record TableFits (t : Table) : Type 0 where
+  pub count : t.count < word_limit
+  pub servers : All ServerFits t.servers
+
+pub record StateFits (s : State) : Type 0 where
+  pub table : TableFits s.table
+  pub refills : QueueFits s.refills
+  pub entries : All EntryFits s.entries

@@ -1,10 +1,14 @@
 // The library for a kernel in C: include/ribascenzo.h declares it. A queue, a table or a state is held in words at fixed places (words.rt). A call reads
 // them, does what the by-value call does, and stores what comes of it; a refused call stores nothing.
-#![tactic(auto)]
+#![tactic(auto, using(crate::proofs::Storing::number_tested))]
 
 mod words;
 
-ghost use Rattle.std.specs.Prelude.{◌≡◌, [], length};
+ghost use Rattle.std.specs.Prelude.{◌≡◌, [], ◌∷◌, ◌<◌, length, Result, IfOk, MatchResult};
+ghost use Rattle.std.specs.Fn.{FnOnceReturnsAtMut};
+ghost use Rattle.refusal.specs.Refusal.{none};
+ghost use Rattle.refusal.specs.Reason.{refusal_in};
+ghost use Rattle.refusal.specs.declared.Reason.{Reason};
 ghost use Rattle.field.specs.Write.{buffer_after};
 ghost use Rattle.queue.specs.Limits.{max_gap, longest};
 ghost use Rattle.queue.specs.Row.{queue_of};
@@ -15,36 +19,39 @@ ghost use Rattle.setup.specs.Read.{read_of as setup_of};
 ghost use Rattle.setup.specs.Write.{write_refusal, written_to};
 ghost use Rattle.message.specs.Message.{read_of, raw_bytes};
 ghost use Rattle.message.specs.Message.{write_refusal as message_refusal};
+ghost use Rattle.state.specs.State.{entry_at, load_at};
 ghost use Rattle.state.specs.Sound.{stateb};
-ghost use Rattle.state.specs.Choice.{choice_number};
 ghost use Rattle.scheduler.specs.Arrive.{arrival_number, arrive_of};
 ghost use Rattle.scheduler.specs.Tick.{tick_of};
-ghost use Rattle.port.specs.Words.{word, queue_in, queue_words, table_in, state_in};
-ghost use Rattle.port.specs.Exports.{chosen_server, chosen_task, budget_refusal, load_refusal, message_words};
+ghost use Rattle.port.specs.Layout.{word_limit};
+ghost use Rattle.port.specs.Words.{queue_in, queue_words, table_in, state_in};
+ghost use Rattle.port.specs.Exports.{answer_words, budget_refusal, load_refusal, message_words};
 ghost use Rattle.port.specs.Exports.{held_queue, held_distance, held_rest, held_id, held_state, held_answer, held_arrived, held_lost};
 ghost use Rattle.port.specs.Exports.{held_budget, held_load, held_table, held_fresh, held_length, held_message};
 
 use message::Message;
 use queue::{Distance, Queue};
-use refusal::Refusal;
-use scheduler::Arrival;
-use state::Choice;
-use words::{QUEUE, STATE, TABLE};
+use refusal::{Reason, Refusal};
+use scheduler::{Answer, Arrival};
+use state::{Choice, Load, State};
+use table::{Served, Table};
+use words::{QUEUE, STATE, TABLE, Words};
 
 // THE QUEUE
 
+#[tactic(auto, unfolding(queue::specs::Row::queue_of))]
 #[unsafe(no_mangle)]
 pub extern "C" fn ribascenzo_queue_empty(q: &mut [u32; QUEUE])
     ensures { q.new ≡ queue_words (queue_of []) }
 {
-    words::put_queue(q, 0, Queue::empty());
+    Queue::empty().put(q);
 }
 
 #[unsafe(no_mangle)]
 pub extern "C" fn ribascenzo_queue_sound(q: &[u32; QUEUE]) -> bool
     ensures { result ≡ soundb max_gap longest (queue_in q.now) }
 {
-    queue::sound(words::queue_in(q, 0))
+    Queue::read(q).is_sound()
 }
 
 #[unsafe(no_mangle)]
@@ -52,12 +59,7 @@ pub extern "C" fn ribascenzo_queue_insert(q: &mut [u32; QUEUE], id: u8, delay: u
     ensures refusal { result ≡ (insert_of max_gap longest (queue_in q.old) id delay).refusal }
     ensures queue { q.new ≡ held_queue (insert_of max_gap longest (queue_in q.old) id delay) q.old }
 {
-    let c = queue::insert(words::queue_in(q, 0), id, Distance(delay));
-    let r = c.refusal;
-    if r.number == 0 {
-        words::put_queue(q, 0, c.queue);
-    }
-    r
+    told(change(q, |queue: &mut Queue| queue.insert(id, Distance(delay))))
 }
 
 #[unsafe(no_mangle)]
@@ -65,12 +67,7 @@ pub extern "C" fn ribascenzo_queue_remove(q: &mut [u32; QUEUE], id: u8) -> Refus
     ensures refusal { result ≡ (remove_of max_gap longest (queue_in q.old) id).refusal }
     ensures queue { q.new ≡ held_queue (remove_of max_gap longest (queue_in q.old) id) q.old }
 {
-    let c = queue::remove(words::queue_in(q, 0), id);
-    let r = c.refusal;
-    if r.number == 0 {
-        words::put_queue(q, 0, c.queue);
-    }
-    r
+    told(change(q, |queue: &mut Queue| queue.remove(id)))
 }
 
 #[unsafe(no_mangle)]
@@ -82,13 +79,7 @@ pub extern "C" fn ribascenzo_queue_time_left(
     ensures refusal { result ≡ (time_left_of max_gap longest (queue_in q.now) id).refusal }
     ensures distance { distance.new ≡ held_distance (time_left_of max_gap longest (queue_in q.now) id) distance.old }
 {
-    let l = queue::time_left(words::queue_in(q, 0), id);
-    let refused = l.refusal;
-    if refused.number == 0 {
-        let d = l.distance;
-        *distance = [d.0];
-    }
-    refused
+    store(Queue::read(q).time_left(id).map(distance_words), distance)
 }
 
 #[unsafe(no_mangle)]
@@ -96,12 +87,7 @@ pub extern "C" fn ribascenzo_queue_clock(q: &mut [u32; QUEUE]) -> Refusal
     ensures refusal { result ≡ (clock_of max_gap longest (queue_in q.old)).refusal }
     ensures queue { q.new ≡ held_queue (clock_of max_gap longest (queue_in q.old)) q.old }
 {
-    let c = queue::clock(words::queue_in(q, 0));
-    let r = c.refusal;
-    if r.number == 0 {
-        words::put_queue(q, 0, c.queue);
-    }
-    r
+    told(change(q, |queue: &mut Queue| queue.clock()))
 }
 
 #[unsafe(no_mangle)]
@@ -110,13 +96,13 @@ pub extern "C" fn ribascenzo_queue_take(q: &mut [u32; QUEUE], id: &mut [u8; 1]) 
     ensures queue { q.new ≡ held_rest (take_of max_gap longest (queue_in q.old)) q.old }
     ensures id { id.new ≡ held_id (take_of max_gap longest (queue_in q.old)) id.old }
 {
-    let t = queue::take(words::queue_in(q, 0));
-    let r = t.refusal;
-    if r.number == 0 {
-        *id = [t.id];
-        words::put_queue(q, 0, t.queue);
+    match change(q, |queue: &mut Queue| queue.take()) {
+        Ok(event) => {
+            *id = [event];
+            Refusal::NONE
+        }
+        Err(reason) => reason.into(),
     }
-    r
 }
 
 #[unsafe(no_mangle)]
@@ -124,12 +110,7 @@ pub extern "C" fn ribascenzo_queue_push_back(q: &mut [u32; QUEUE]) -> Refusal
     ensures refusal { result ≡ (push_back_of max_gap longest (queue_in q.old)).refusal }
     ensures queue { q.new ≡ held_queue (push_back_of max_gap longest (queue_in q.old)) q.old }
 {
-    let c = queue::push_back(words::queue_in(q, 0));
-    let r = c.refusal;
-    if r.number == 0 {
-        words::put_queue(q, 0, c.queue);
-    }
-    r
+    told(change(q, |queue: &mut Queue| queue.push_back()))
 }
 
 // THE SCHEDULER
@@ -140,20 +121,17 @@ pub extern "C" fn ribascenzo_fresh(s: &mut [u32; STATE], setup: &[u8]) -> Refusa
     ensures refusal { result ≡ (setup_of longest most_work setup.now).refusal }
     ensures state { s.new ≡ held_fresh (setup_of longest most_work setup.now) s.old }
 {
-    let r = setup::read(setup);
-    let refusal = r.refusal;
-    if refusal.number == 0 {
-        let m = state::fresh(r.table);
-        words::put_state(s, m.state);
+    match setup::read(setup) {
+        Ok(table) => store(State::fresh(&table), s),
+        Err(fault) => fault.into(),
     }
-    refusal
 }
 
 #[unsafe(no_mangle)]
 pub extern "C" fn ribascenzo_sound(s: &[u32; STATE]) -> bool
     ensures { result ≡ stateb (state_in s.now) }
 {
-    state::sound(words::state_in(s))
+    State::read(s).is_sound()
 }
 
 #[unsafe(no_mangle)]
@@ -162,19 +140,10 @@ pub extern "C" fn ribascenzo_tick(s: &mut [u32; STATE], answer: &mut [u32; 4]) -
     ensures state { s.new ≡ held_state (tick_of (state_in s.old)) s.old }
     ensures answer { answer.new ≡ held_answer (tick_of (state_in s.old)) answer.old }
 {
-    let t = scheduler::tick(words::state_in(s));
-    let r = t.refusal;
-    if r.number == 0 {
-        let c = t.choice;
-        *answer = [
-            choice_number(c),
-            chosen_server(c),
-            chosen_task(c),
-            t.handled,
-        ];
-        words::put_state(s, t.state);
-    }
-    r
+    store(
+        change(s, |state: &mut State| scheduler::tick(state)).map(answer_words),
+        answer,
+    )
 }
 
 // `lost` is 0 where the work is accepted and 1 where it is lost.
@@ -189,14 +158,11 @@ pub extern "C" fn ribascenzo_arrive(
     ensures state { s.new ≡ held_arrived (arrive_of (state_in s.old) server task) s.old }
     ensures lost { lost.new ≡ held_lost (arrive_of (state_in s.old) server task) lost.old }
 {
-    let a = scheduler::arrive(words::state_in(s), server, task);
-    let r = a.refusal;
-    if r.number == 0 {
-        let said = a.arrival;
-        *lost = [arrival_number(said)];
-        words::put_state(s, a.state);
-    }
-    r
+    let said = change(
+        s,
+        |state: &mut State| scheduler::arrive(state, server, task),
+    );
+    store(said.map(arrival_words), lost)
 }
 
 #[unsafe(no_mangle)]
@@ -204,19 +170,7 @@ pub extern "C" fn ribascenzo_budget(s: &[u32; STATE], server: u8, budget: &mut [
     ensures refusal { result ≡ budget_refusal (state_in s.now) server }
     ensures budget { budget.new ≡ held_budget (state_in s.now) server budget.old }
 {
-    let state = words::state_in(s);
-    if !state::sound(state) {
-        return Refusal::numbered(Refusal::UNSOUND);
-    }
-    let table = state.table;
-    let i = server as usize;
-    if table.count <= i {
-        return Refusal::numbered(Refusal::NO_SERVER);
-    }
-    let e = state.entries[i];
-    let b = e.budget;
-    *budget = [b.0];
-    Refusal::none()
+    store(budget_of(s, server).map(budget_words), budget)
 }
 
 // A task's pending work and its lost count.
@@ -230,25 +184,7 @@ pub extern "C" fn ribascenzo_load(
     ensures refusal { result ≡ load_refusal (state_in s.now) server task }
     ensures load { load.new ≡ held_load (state_in s.now) server task load.old }
 {
-    let state = words::state_in(s);
-    if !state::sound(state) {
-        return Refusal::numbered(Refusal::UNSOUND);
-    }
-    let table = state.table;
-    let i = server as usize;
-    if table.count <= i {
-        return Refusal::numbered(Refusal::NO_SERVER);
-    }
-    let v = table.servers[i];
-    let j = task as usize;
-    if v.count <= j {
-        return Refusal::numbered(Refusal::NO_TASK);
-    }
-    let e = state.entries[i];
-    let l = e.loads[j];
-    let p = l.pending;
-    *load = [p.0, l.lost as u32];
-    Refusal::none()
+    store(load_of(s, server, task), load)
 }
 
 // FILES AND MESSAGES
@@ -258,12 +194,7 @@ pub extern "C" fn ribascenzo_setup_read(setup: &[u8], table: &mut [u32; TABLE]) 
     ensures refusal { result ≡ (setup_of longest most_work setup.now).refusal }
     ensures table { table.new ≡ held_table (setup_of longest most_work setup.now) table.old }
 {
-    let r = setup::read(setup);
-    let refusal = r.refusal;
-    if refusal.number == 0 {
-        words::put_table(table, 0, r.table);
-    }
-    refusal
+    store(setup::read(setup), table)
 }
 
 #[unsafe(no_mangle)]
@@ -276,12 +207,10 @@ pub extern "C" fn ribascenzo_setup_write(
     ensures buffer { out.new ≡ written_to longest most_work (table_in table.now) out.old }
     ensures length { written.new ≡ held_length (table_in table.now) (length out.old) written.old }
 {
-    let w = setup::write(words::table_in(table, 0), out);
-    let r = w.refusal;
-    if r.number == 0 {
-        *written = [w.length as u32];
-    }
-    r
+    store(
+        setup::write(&Table::read(table), out).map(length_words),
+        written,
+    )
 }
 
 #[unsafe(no_mangle)]
@@ -289,13 +218,7 @@ pub extern "C" fn ribascenzo_message_read(bytes: &[u8], message: &mut [u32; 3]) 
     ensures refusal { result ≡ (read_of bytes.now).refusal }
     ensures message { message.new ≡ held_message (read_of bytes.now) message.old }
 {
-    let m = message::read(bytes);
-    let r = m.refusal;
-    if r.number == 0 {
-        let said = m.message;
-        *message = [message_kind(said), first_value(said), second_value(said)];
-    }
-    r
+    store(message::read(bytes).map(message_words), message)
 }
 
 #[unsafe(no_mangle)]
@@ -303,74 +226,138 @@ pub extern "C" fn ribascenzo_message_write(kind: u8, a: u8, b: u8, out: &mut [u8
     ensures refusal { result ≡ message_refusal kind (length out.old) }
     ensures buffer { out.new ≡ buffer_after (message_refusal kind (length out.old)) (raw_bytes kind a b) out.old }
 {
-    let w = message::write(kind, a, b, out);
-    w.refusal
+    told(message::write(kind, a, b, out))
 }
 
-// THE NUMBERS OF AN ANSWER'S CASES
+// HOW A CALL ANSWERS
 
-fn choice_number(c: Choice) -> u32
-    ensures { result ≡ choice_number c }
+// A call on the thing that words hold. Where it is accepted they hold what it leaves; a refused call stores nothing.
+fn change<T: Words, A, F: FnOnce(&mut T) -> Result<A, Reason>>(
+    w: &mut [u32],
+    call: F,
+) -> Result<A, Reason>
+    requires room { length w.old ≡ T.SIZE }
+    requires callable { F.IsAlwaysCallable call }
+    requires fits { (r : Result A Reason) (x : T) → FnOnceReturnsAtMut F.FnOnce call (T.held w.old) r x → IfOk r (λ _. T.fits x) }
+    ensures { (x : T) × FnOnceReturnsAtMut F.FnOnce call (T.held w.old) result x × MatchResult result (λ _. w.new ≡ T.words x) (λ _. w.new ≡ w.old) }
 {
-    match c {
-        Choice::Idle => 0,
-        Choice::Burning(_) => 1,
-        Choice::Running(_, _) => 2,
+    let mut x = T::read(w);
+    let answer = call(&mut x)?;
+    x.put(w);
+    Ok(answer)
+}
+
+// What a call gives goes to lent memory, and why it is refused to the caller; a refused call stores nothing.
+fn store<T: Words, E>(r: Result<T, E>, w: &mut [u32]) -> Refusal
+where
+    Refusal: From<E>,
+    requires room { length w.old ≡ T.SIZE }
+    requires fits { IfOk r T.fits }
+    ensures { MatchResult r (λ x. (result ≡ none) × (w.new ≡ T.words x)) (λ e. ⟦<Refusal as From<E>>⟧.from_gives e result × (w.new ≡ w.old)) }
+{
+    match r {
+        Ok(x) => {
+            x.put(w);
+            Refusal::NONE
+        }
+        Err(e) => e.into(),
     }
 }
 
-fn chosen_server(c: Choice) -> u32
-    ensures { result ≡ chosen_server c }
+// Why a call is refused, or that it is not.
+fn told<A: Drop>(r: Result<A, Reason>) -> Refusal
+    ensures { result ≡ refusal_in r }
 {
-    match c {
-        Choice::Idle => 0,
-        Choice::Burning(i) => i as u32,
-        Choice::Running(i, _) => i as u32,
+    match r {
+        Ok(_) => Refusal::NONE,
+        Err(reason) => reason.into(),
     }
 }
 
-fn chosen_task(c: Choice) -> u32
-    ensures { result ≡ chosen_task c }
+// WHAT IS READ OF A STATE
+
+// The place of a server, in a sound state.
+fn place_of(state: &State, server: u8) -> Result<usize, Reason>
+    ensures refusal { refusal_in result ≡ budget_refusal state.now server }
+    ensures place { IfOk result (λ i. i ≡ server) }
 {
-    match c {
-        Choice::Idle => 0,
-        Choice::Burning(_) => 0,
-        Choice::Running(_, j) => j as u32,
+    if !state.is_sound() {
+        return Err(Reason::Unsound);
+    }
+    let i = server as usize;
+    if state.table.count <= i {
+        return Err(Reason::NoServer);
+    }
+    Ok(i)
+}
+
+fn budget_of(s: &[u32; STATE], server: u8) -> Result<Served, Reason>
+    ensures refusal { refusal_in result ≡ budget_refusal (state_in s.now) server }
+    ensures budget { IfOk result (λ b. b ≡ (entry_at (state_in s.now) server).budget) }
+{
+    let state = State::read(s);
+    let i = place_of(&state, server)?;
+    Ok(state.entries[i].budget)
+}
+
+fn load_of(s: &[u32; STATE], server: u8, task: u8) -> Result<Load, Reason>
+    ensures refusal { refusal_in result ≡ load_refusal (state_in s.now) server task }
+    ensures load { IfOk result (λ l. l ≡ load_at (state_in s.now) server task) }
+{
+    let state = State::read(s);
+    let i = place_of(&state, server)?;
+    let j = task as usize;
+    if state.table.servers[i].count <= j {
+        return Err(Reason::NoTask);
+    }
+    Ok(state.entries[i].loads[j])
+}
+
+// THE WORDS OF AN ANSWER'S CASES
+
+fn answer_words(a: Answer) -> [u32; 4]
+    ensures { result ≡ answer_words a.choice a.handled }
+{
+    match a.choice {
+        Choice::Idle => [0, 0, 0, a.handled],
+        Choice::Burning(i) => [1, i as u32, 0, a.handled],
+        Choice::Running(i, j) => [2, i as u32, j as u32, a.handled],
     }
 }
 
-fn arrival_number(a: Arrival) -> u32
-    ensures { result ≡ arrival_number a }
+fn arrival_words(a: Arrival) -> [u32; 1]
+    ensures { result ≡ arrival_number a ∷ [] }
 {
     match a {
-        Arrival::Accepted => 0,
-        Arrival::Lost => 1,
+        Arrival::Accepted => [0],
+        Arrival::Lost => [1],
     }
 }
 
-fn message_kind(m: Message) -> u32
-    ensures { result ≡ word 0 (message_words m) }
+fn distance_words(d: Distance) -> [u32; 1]
+    ensures { result ≡ d.0 ∷ [] }
 {
-    match m {
-        Message::Run(_) => 1,
-        Message::Arrival(_, _) => 2,
-    }
+    [d.0]
 }
 
-fn first_value(m: Message) -> u32
-    ensures { result ≡ word 1 (message_words m) }
+fn budget_words(b: Served) -> [u32; 1]
+    ensures { result ≡ b.0 ∷ [] }
 {
-    match m {
-        Message::Run(n) => n as u32,
-        Message::Arrival(i, _) => i as u32,
-    }
+    [b.0]
 }
 
-fn second_value(m: Message) -> u32
-    ensures { result ≡ word 2 (message_words m) }
+fn length_words(n: usize) -> [u32; 1]
+    requires { n < word_limit }
+    ensures { result ≡ n ∷ [] }
+{
+    [n as u32]
+}
+
+fn message_words(m: Message) -> [u32; 3]
+    ensures { result ≡ message_words m }
 {
     match m {
-        Message::Run(_) => 0,
-        Message::Arrival(_, j) => j as u32,
+        Message::Run(n) => [1, n as u32, 0],
+        Message::Arrival(i, j) => [2, i as u32, j as u32],
     }
 }

@@ -1,297 +1,360 @@
 // Queues, tables and states in words of 32 bits at fixed places: the layout that include/ribascenzo.h declares. Words that are none of a value's are read as a
 // value that no sound one has, so that a call on them is refused with 31.
-ghost use Rattle.std.specs.Prelude.{◌≡◌, ◌+◌, ◌*◌, ◌≤◌, ◌<◌, length, drop, true};
-ghost use Rattle.field.specs.Field.{over};
+ghost use Rattle.std.specs.Prelude.{◌≡◌, [], ◌∷◌, ◌+◌, ◌*◌, ◌≤◌, ◌<◌, ℕ, List, length, take, drop};
+ghost use Rattle.small.specs.Small.{each, All};
 ghost use Rattle.queue.specs.Limits.{longest};
+ghost use Rattle.queue.specs.declared.Cell.{Cell};
+ghost use Rattle.queue.specs.declared.Queue.{Queue};
 ghost use Rattle.table.specs.Limits.{most_work};
 ghost use Rattle.table.specs.Sound.{tableb};
+ghost use Rattle.table.specs.declared.Task.{Task};
+ghost use Rattle.table.specs.declared.Server.{Server};
+ghost use Rattle.table.specs.declared.Table.{Table};
 ghost use Rattle.state.specs.Sound.{stateb};
-ghost use Rattle.port.specs.Words.{cell_in, cell_word, queue_in, queue_words, load_in, load_words, entry_in, entry_words};
+ghost use Rattle.state.specs.declared.Load.{Load};
+ghost use Rattle.state.specs.declared.Entry.{Entry};
+ghost use Rattle.state.specs.declared.State.{State};
+ghost use Rattle.port.specs.Words.{word, many_in, cell_in, cell_word, queue_in, queue_words, load_in, load_words, entry_in, entry_words};
 ghost use Rattle.port.specs.Words.{release_in, task_in, task_words, kind_in, server_in, server_words, table_in, table_words, state_in, state_words};
-ghost use Rattle.port.specs.Layout.{word_limit, queue_size, load_size, entry_size, task_size, server_size, table_size};
+ghost use Rattle.port.specs.Words.{QueueFits, EntryFits, ServerFits, TableFits, StateFits};
+ghost use Rattle.port.specs.Layout.{queue_size, load_size, entry_size, task_size, server_size, table_size, state_size};
 
 use queue::{Cell, Distance, Queue};
 use state::{Entry, Load, State};
+use std::array;
 use table::{Release, Served, Server, Table, Task};
 
-// How many words each takes.
-pub(crate) const QUEUE: usize = 1 + Queue::CELLS;
+// How many words a queue, a table and a state take, as the exports name them.
+pub(crate) const QUEUE: usize = <Queue as Words>::SIZE;
 
-const LOAD: usize = 2;
+pub(crate) const TABLE: usize = <Table as Words>::SIZE;
 
-const ENTRY: usize = 1 + LOAD * Table::ENTRIES + QUEUE;
+pub(crate) const STATE: usize = <State as Words>::SIZE;
 
-const TASK: usize = 4;
+// Where an entry has its queue of arrivals, and a state its entries.
+const ARRIVALS: usize = 1 + <Load as Words>::SIZE * Table::ENTRIES;
 
-const SERVER: usize = 4 + TASK * Table::ENTRIES;
+const ENTRIES: usize = TABLE + QUEUE;
 
-pub(crate) const TABLE: usize = 1 + SERVER * Table::ENTRIES;
+/// A thing of a fixed number of words: what words hold, whatever stands behind them, and the words that a thing is stored as.
+pub(crate) trait Words: Copy {
+    ghost SIZE: { ℕ };
 
-pub(crate) const STATE: usize = TABLE + QUEUE + ENTRY * Table::ENTRIES;
+    ghost held: { List ℕ → Self };
+
+    ghost words: { Self → List ℕ };
+
+    ghost fits: { Self → Type 0 };
+
+    const SIZE: usize;
+
+    fn read(w: &[u32]) -> Self
+        requires { SIZE ≤ length w.now }
+        ensures { result ≡ held w.now };
+
+    fn put(&self, w: &mut [u32])
+        requires room { length w.old ≡ SIZE }
+        requires fits { fits self.now }
+        ensures { w.new ≡ words self.now };
+}
+
+// N things, one behind the other.
+fn read_all<T: Words, const N: usize>(w: &[u32]) -> [T; N]
+    requires { T.SIZE * N ≤ length w.now }
+    ensures { result ≡ many_in T.SIZE T.held N w.now }
+{
+    array::from_fn(
+        |i| -> T
+            requires { T.SIZE * (i + 1) ≤ length w.now }
+            ensures { result ≡ T.held (drop (T.SIZE * i) w.entry.now) }
+        { T::read(&w[T::SIZE * i..]) },
+    )
+}
+
+fn put_all<T: Words, const N: usize>(all: &[T; N], w: &mut [u32])
+    requires room { length w.old ≡ T.SIZE * N }
+    requires fits { All T.fits all.now }
+    ensures { w.new ≡ each T.words all.now }
+{
+    for (i, x) in all.iter().enumerate() {
+        let at = T::SIZE * i;
+        x.put(&mut w[at..at + T::SIZE]);
+    }
+}
+
+// Words are the things of one word each that an answer has.
+impl<const N: usize> Words for [u32; N] {
+    ghost SIZE = { N };
+
+    ghost held = { take N };
+
+    ghost words = { λ ws. ws };
+
+    ghost fits = { λ ws. Unit {0} };
+
+    const SIZE: usize = N;
+
+    fn read(w: &[u32]) -> [u32; N] {
+        let mut all = [0; N];
+        all.copy_from_slice(&w[..N]);
+        all
+    }
+
+    fn put(&self, w: &mut [u32]) {
+        w.copy_from_slice(self);
+    }
+}
 
 // QUEUES: the number of cells, then each cell's id times 65,536 and its gap
 
-fn cell_in(w: u32) -> Cell
-    ensures { result ≡ cell_in w }
-{
-    if 16_777_215 < w {
-        return Cell { id: 255, gap: 0 };
+#[tactic(auto, unfolding(crate::specs::Words::cell_in))]
+impl Words for Cell {
+    ghost SIZE = { 1 };
+
+    ghost held = { λ ws. cell_in (word 0 ws) };
+
+    ghost words = { λ c. cell_word c ∷ [] };
+
+    ghost fits = { λ c. Unit {0} };
+
+    const SIZE: usize = 1;
+
+    fn read(w: &[u32]) -> Cell {
+        let word = w[0];
+        if 16_777_215 < word {
+            return Cell { id: 255, gap: 0 };
+        }
+        Cell {
+            id: (word / 65_536) as u8,
+            gap: (word % 65_536) as u16,
+        }
     }
-    Cell {
-        id: (w / 65_536) as u8,
-        gap: (w % 65_536) as u16,
+
+    fn put(&self, w: &mut [u32]) {
+        w[0] = self.id as u32 * 65_536 + self.gap as u32;
     }
 }
 
-fn cell_word(c: Cell) -> u32
-    ensures { result ≡ cell_word c }
-{
-    (c.id as u32) * 65_536 + (c.gap as u32)
-}
+#[tactic(auto, unfolding(crate::specs::Words::queue_in, crate::specs::Words::queue_words))]
+impl Words for Queue {
+    ghost SIZE = { queue_size };
 
-pub(crate) fn queue_in(w: &[u32], at: usize) -> Queue
-    requires { at + queue_size ≤ length w.now }
-    ensures { result ≡ queue_in (drop at w.now) }
-{
-    let mut q = Queue::empty();
-    let mut i: usize = 0;
-    while i < Queue::CELLS {
-        let c = cell_in(w[at + 1 + i]);
-        q.cells[i] = c;
-        i = i + 1;
+    ghost held = { queue_in };
+
+    ghost words = { queue_words };
+
+    ghost fits = { QueueFits };
+
+    const SIZE: usize = 1 + Cell::SIZE * Queue::CELLS;
+
+    fn read(w: &[u32]) -> Queue {
+        Queue {
+            cells: read_all(&w[1..]),
+            len: w[0] as usize,
+        }
     }
-    q.len = w[at] as usize;
-    q
-}
 
-pub(crate) fn put_queue(w: &mut [u32], at: usize, q: Queue)
-    requires { (at + queue_size ≤ length w.old) × (q.len < word_limit) }
-    ensures { w.new ≡ over at (queue_words q) w.old }
-{
-    w[at] = q.len as u32;
-    let mut i: usize = 0;
-    while i < Queue::CELLS {
-        let c = q.cells[i];
-        w[at + 1 + i] = cell_word(c);
-        i = i + 1;
+    fn put(&self, w: &mut [u32]) {
+        let (count, cells) = w.split_at_mut(1);
+        count[0] = self.len as u32;
+        put_all(&self.cells, cells);
     }
 }
 
 // ENTRIES: the budget, the loads, the queue of arrivals
 
-fn load_in(w: &[u32], at: usize) -> Load
-    requires { at + load_size ≤ length w.now }
-    ensures { result ≡ load_in (drop at w.now) }
-{
-    let pending = w[at];
-    let lost = w[at + 1];
-    if 65_535 < lost {
-        return Load {
-            pending: Served(4_294_967_295),
-            lost: 0,
-        };
+#[tactic(auto, unfolding(crate::specs::Words::load_in))]
+impl Words for Load {
+    ghost SIZE = { load_size };
+
+    ghost held = { load_in };
+
+    ghost words = { load_words };
+
+    ghost fits = { λ l. Unit {0} };
+
+    const SIZE: usize = 2;
+
+    fn read(w: &[u32]) -> Load {
+        let pending = w[0];
+        let lost = w[1];
+        if 65_535 < lost {
+            return Load {
+                pending: Served(4_294_967_295),
+                lost: 0,
+            };
+        }
+        Load {
+            pending: Served(pending),
+            lost: lost as u16,
+        }
     }
-    Load {
-        pending: Served(pending),
-        lost: lost as u16,
+
+    fn put(&self, w: &mut [u32]) {
+        w.copy_from_slice(&[self.pending.0, self.lost as u32]);
     }
 }
 
-fn put_load(w: &mut [u32], at: usize, l: Load)
-    requires { at + load_size ≤ length w.old }
-    ensures { w.new ≡ over at (load_words l) w.old }
-{
-    let p = l.pending;
-    w[at] = p.0;
-    w[at + 1] = l.lost as u32;
-}
+#[tactic(auto, unfolding(crate::specs::Words::entry_in, crate::specs::Words::entry_words))]
+impl Words for Entry {
+    ghost SIZE = { entry_size };
 
-fn entry_in(w: &[u32], at: usize) -> Entry
-    requires { at + entry_size ≤ length w.now }
-    ensures { result ≡ entry_in (drop at w.now) }
-{
-    let zero = Load {
-        pending: Served(0),
-        lost: 0,
-    };
-    let mut loads = [zero; Table::ENTRIES];
-    let mut j: usize = 0;
-    while j < Table::ENTRIES {
-        let l = load_in(w, at + 1 + LOAD * j);
-        loads[j] = l;
-        j = j + 1;
-    }
-    Entry {
-        loads: loads,
-        arrivals: queue_in(w, at + 1 + LOAD * Table::ENTRIES),
-        budget: Served(w[at]),
-    }
-}
+    ghost held = { entry_in };
 
-fn put_entry(w: &mut [u32], at: usize, e: Entry)
-    requires { (at + entry_size ≤ length w.old) × (e.arrivals.len < word_limit) }
-    ensures { w.new ≡ over at (entry_words e) w.old }
-{
-    let b = e.budget;
-    w[at] = b.0;
-    let mut j: usize = 0;
-    while j < Table::ENTRIES {
-        put_load(w, at + 1 + LOAD * j, e.loads[j]);
-        j = j + 1;
+    ghost words = { entry_words };
+
+    ghost fits = { EntryFits };
+
+    const SIZE: usize = 1 + Load::SIZE * Table::ENTRIES + Queue::SIZE;
+
+    fn read(w: &[u32]) -> Entry {
+        Entry {
+            loads: read_all(&w[1..]),
+            arrivals: Queue::read(&w[ARRIVALS..]),
+            budget: Served(w[0]),
+        }
     }
-    put_queue(w, at + 1 + LOAD * Table::ENTRIES, e.arrivals);
+
+    fn put(&self, w: &mut [u32]) {
+        let (front, arrivals) = w.split_at_mut(ARRIVALS);
+        let (budget, loads) = front.split_at_mut(1);
+        budget[0] = self.budget.0;
+        put_all(&self.loads, loads);
+        self.arrivals.put(arrivals);
+    }
 }
 
 // TABLES: the number of servers, then each server: its kind, the number of its tasks, P, C, then each task: its release (0 or 1), E, T, O
 
-fn task_in(w: &[u32], at: usize) -> Task
-    requires { at + task_size ≤ length w.now }
-    ensures { result ≡ task_in (drop at w.now) }
-{
-    Task {
-        work: Served(w[at + 1]),
-        release: release_in(w[at], w[at + 2], w[at + 3]),
+#[tactic(auto, unfolding(crate::specs::Words::task_in))]
+impl Words for Task {
+    ghost SIZE = { task_size };
+
+    ghost held = { task_in };
+
+    ghost words = { task_words };
+
+    ghost fits = { λ t. Unit {0} };
+
+    const SIZE: usize = 4;
+
+    fn read(w: &[u32]) -> Task {
+        Task {
+            work: Served(w[1]),
+            release: release_in(w[0], w[2], w[3]),
+        }
+    }
+
+    fn put(&self, w: &mut [u32]) {
+        let r = self.release;
+        w.copy_from_slice(&[r.number() as u32, self.work.0, r.period().0, r.offset().0]);
     }
 }
 
+#[tactic(auto, unfolding(crate::specs::Words::release_in))]
 fn release_in(release: u32, period: u32, offset: u32) -> Release
     ensures { result ≡ release_in release period offset }
 {
-    if release == 1 {
-        return Release::Periodic {
+    match (release, period, offset) {
+        (1, _, _) => Release::Periodic {
             period: Distance(period),
             offset: Distance(offset),
-        };
+        },
+        (0, 0, 0) => Release::OnArrival,
+        _ => Release::Periodic {
+            period: Distance(0),
+            offset: Distance(0),
+        },
     }
-    if release == 0 {
-        if period == 0 {
-            if offset == 0 {
-                return Release::OnArrival;
-            }
+}
+
+#[tactic(auto, unfolding(crate::specs::Words::server_in, crate::specs::Words::server_words))]
+impl Words for Server {
+    ghost SIZE = { server_size };
+
+    ghost held = { server_in };
+
+    ghost words = { server_words };
+
+    ghost fits = { ServerFits };
+
+    const SIZE: usize = 4 + Task::SIZE * Table::ENTRIES;
+
+    fn read(w: &[u32]) -> Server {
+        Server {
+            tasks: read_all(&w[4..]),
+            count: w[1] as usize,
+            kind: w[0].min(255) as u8,
+            period: Distance(w[2]),
+            budget: Served(w[3]),
         }
     }
-    Release::Periodic {
-        period: Distance(0),
-        offset: Distance(0),
+
+    fn put(&self, w: &mut [u32]) {
+        let (own, tasks) = w.split_at_mut(4);
+        own.copy_from_slice(&[
+            self.kind as u32,
+            self.count as u32,
+            self.period.0,
+            self.budget.0,
+        ]);
+        put_all(&self.tasks, tasks);
     }
 }
 
-fn put_task(w: &mut [u32], at: usize, t: Task)
-    requires { at + task_size ≤ length w.old }
-    ensures { w.new ≡ over at (task_words t) w.old }
-{
-    let e = t.work;
-    let r = t.release;
-    w[at] = table::release_number(r) as u32;
-    w[at + 1] = e.0;
-    w[at + 2] = table::period_of(r).0;
-    w[at + 3] = table::offset_of(r).0;
-}
+#[tactic(auto, unfolding(crate::specs::Words::table_in, crate::specs::Words::table_words))]
+impl Words for Table {
+    ghost SIZE = { table_size };
 
-fn server_in(w: &[u32], at: usize) -> Server
-    requires { at + server_size ≤ length w.now }
-    ensures { result ≡ server_in (drop at w.now) }
-{
-    let mut tasks = [Task::zero(); Table::ENTRIES];
-    let mut j: usize = 0;
-    while j < Table::ENTRIES {
-        let t = task_in(w, at + 4 + TASK * j);
-        tasks[j] = t;
-        j = j + 1;
-    }
-    Server {
-        tasks: tasks,
-        count: w[at + 1] as usize,
-        kind: kind_in(w[at]),
-        period: Distance(w[at + 2]),
-        budget: Served(w[at + 3]),
-    }
-}
+    ghost held = { table_in };
 
-fn kind_in(w: u32) -> u8
-    ensures { result ≡ kind_in w }
-{
-    if 255 < w {
-        return 255;
-    }
-    w as u8
-}
+    ghost words = { table_words };
 
-fn put_server(w: &mut [u32], at: usize, s: Server)
-    requires { (at + server_size ≤ length w.old) × (s.count < word_limit) }
-    ensures { w.new ≡ over at (server_words s) w.old }
-{
-    let p = s.period;
-    let b = s.budget;
-    w[at] = s.kind as u32;
-    w[at + 1] = s.count as u32;
-    w[at + 2] = p.0;
-    w[at + 3] = b.0;
-    let mut j: usize = 0;
-    while j < Table::ENTRIES {
-        put_task(w, at + 4 + TASK * j, s.tasks[j]);
-        j = j + 1;
-    }
-}
+    ghost fits = { TableFits };
 
-pub(crate) fn table_in(w: &[u32], at: usize) -> Table
-    requires { at + table_size ≤ length w.now }
-    ensures { result ≡ table_in (drop at w.now) }
-{
-    let mut t = Table::zero();
-    t.count = w[at] as usize;
-    let mut i: usize = 0;
-    while i < Table::ENTRIES {
-        let s = server_in(w, at + 1 + SERVER * i);
-        t.servers[i] = s;
-        i = i + 1;
-    }
-    t
-}
+    const SIZE: usize = 1 + Server::SIZE * Table::ENTRIES;
 
-pub(crate) fn put_table(w: &mut [u32], at: usize, t: Table)
-    requires { (at + table_size ≤ length w.old) × (tableb longest most_work t ≡ true) }
-    ensures { w.new ≡ over at (table_words t) w.old }
-{
-    w[at] = t.count as u32;
-    let mut i: usize = 0;
-    while i < Table::ENTRIES {
-        put_server(w, at + 1 + SERVER * i, t.servers[i]);
-        i = i + 1;
+    fn read(w: &[u32]) -> Table {
+        Table {
+            servers: read_all(&w[1..]),
+            count: w[0] as usize,
+        }
+    }
+
+    fn put(&self, w: &mut [u32]) {
+        let (count, servers) = w.split_at_mut(1);
+        count[0] = self.count as u32;
+        put_all(&self.servers, servers);
     }
 }
 
 // STATES: the table, the queue of replenishments, the entries
 
-pub(crate) fn state_in(w: &[u32; STATE]) -> State
-    ensures { result ≡ state_in w.now }
-{
-    let table = table_in(w, 0);
-    let refills = queue_in(w, TABLE);
-    let first = entry_in(w, TABLE + QUEUE);
-    let mut entries = [first; Table::ENTRIES];
-    let mut i: usize = 1;
-    while i < Table::ENTRIES {
-        let e = entry_in(w, TABLE + QUEUE + ENTRY * i);
-        entries[i] = e;
-        i = i + 1;
-    }
-    State {
-        entries: entries,
-        table: table,
-        refills: refills,
-    }
-}
+#[tactic(auto, unfolding(crate::specs::Words::state_in, crate::specs::Words::state_words))]
+impl Words for State {
+    ghost SIZE = { state_size };
 
-pub(crate) fn put_state(w: &mut [u32; STATE], s: State)
-    requires { stateb s ≡ true }
-    ensures { w.new ≡ state_words s }
-{
-    put_table(w, 0, s.table);
-    put_queue(w, TABLE, s.refills);
-    let mut i: usize = 0;
-    while i < Table::ENTRIES {
-        put_entry(w, TABLE + QUEUE + ENTRY * i, s.entries[i]);
-        i = i + 1;
+    ghost held = { state_in };
+
+    ghost words = { state_words };
+
+    ghost fits = { StateFits };
+
+    const SIZE: usize = Table::SIZE + Queue::SIZE + Entry::SIZE * Table::ENTRIES;
+
+    fn read(w: &[u32]) -> State {
+        State {
+            entries: read_all(&w[ENTRIES..]),
+            table: Table::read(w),
+            refills: Queue::read(&w[TABLE..]),
+        }
+    }
+
+    fn put(&self, w: &mut [u32]) {
+        let (table, rest) = w.split_at_mut(TABLE);
+        let (refills, entries) = rest.split_at_mut(QUEUE);
+        self.table.put(table);
+        self.refills.put(refills);
+        put_all(&self.entries, entries);
     }
 }

@@ -1,2 +1,2 @@
--- PROMISED: what docs/ASSURANCE.md names
+-- WHAT IS PROMISED OF THE CALLS
 pub mod OneOutcome

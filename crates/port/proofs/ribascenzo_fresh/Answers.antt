@@ -1,18 +1,11 @@
--- `ribascenzo_fresh` meets its contract: an accepted setup's table is sound, and so is the state that it begins in (`fresh_gives`). Assumes nothing.
-use mathlib.Core.Path.{refl}
-use borrow.Author.Tests.{ne_eqb}
-use Rattle.port.proofs.Answering.{read_sound, fresh_gives}
+-- `ribascenzo_fresh` meets its contract: a state is made of an accepted setup's table, which is what the words then hold (`fresh_stored`). Assumes nothing.
+use Rattle.port.proofs.Answering.{fresh_fits, fresh_stored}
 use Rattle.port.proofs.ribascenzo_fresh.Goals as goal
 
-pub put_state-requires : goal.put_state-requires
-put_state-requires c =
-    let r = c.read-r in
-    rw c.fresh-m.ensures (fresh_gives _ (read_sound _ r.result r.ensures c.if-refusal-eq0.true))
+pub store-requires-clause-fits : goal.store-requires-clause-fits
+store-requires-clause-fits c = fresh_fits c.args.setup.now c.in-Ok.table c.in-Ok.ensures c.fresh.result c.fresh.ensures
 
-pub returns-then-refusal-eq0 : goal.returns-then-refusal-eq0
-returns-then-refusal-eq0 c =
-    rw (← c.read-r.ensures, ← c.fresh-m.ensures, c.if-refusal-eq0.true) record { refusal = refl; state = c.put_state.ensures }
-
-pub returns-else-refusal-eq0 : goal.returns-else-refusal-eq0
-returns-else-refusal-eq0 c =
-    rw (← c.read-r.ensures, ne_eqb _ 0 c.if-refusal-eq0.false) record { refusal = refl; state = refl }
+pub returns-in-Ok : goal.returns-in-Ok
+returns-in-Ok c =
+    let h = fresh_stored c.args.setup.now c.in-Ok.table c.in-Ok.ensures c.fresh.result c.fresh.ensures c.store.result c.store.new.w c.args.s.now c.store.ensures in
+    record { refusal = h.0; state = h.1 }

@@ -1,0 +1,39 @@
+use mathlib.Core.Path.{◌≡◌, refl, ◌∙◌}
+use mathlib.Core.List.{[], ◌∷◌}
+use Prim.Native.Nat.{◌+◌}
+use borrow.Author.Tests.{eq-eqb, ne_eqb}
+use lib.ListN.{drop, get_or}
+use Rattle.queue.specs.Row.{cell, cells_of}
+use Rattle.queue.proofs.Cells.{cells_step, cells_end}
+use Rattle.queue.proofs.steps.full.Goals as goal
+use Rattle.queue.proofs.steps.full.Goals.{After-loop-i, In-loop-i}
+
+-- the cell that stands next, and none at the end
+step : (c : In-loop-i) → let q = c.args.q in let i = c.loop-i.i in
+    drop i (cells_of q) ≡ get_or q.cells i (cell 0 0) ∷ drop (i + 1) (cells_of q)
+step c =
+    cells_step c.args.q (c.well_formed.0.1.1.0.1.0.1) c.requires c.loop-i.i c.loop-i-test.true
+
+end : (c : After-loop-i) → drop c.loop-i.i (cells_of c.args.q) ≡ []
+end c =
+    cells_end c.args.q (c.well_formed.0.1.1.0.1.0.1) c.requires c.loop-i.i c.loop-i-test.false
+
+pub loop-i-init : goal.loop-i-init
+loop-i-init c =
+    refl
+
+pub returns-then-c : goal.returns-then-c
+returns-then-c c =
+    rw (c.loop-i.invariant, step (goal.at.returns-then-c c).In-loop-i, ne_eqb _ _ c.if-c.true)
+
+pub returns-then-c-2 : goal.returns-then-c-2
+returns-then-c-2 c =
+    rw (c.loop-i.invariant, step (goal.at.returns-then-c-2 c).In-loop-i, eq-eqb _ _ c.if-c.false, ne_eqb _ _ c.if-c-2.true)
+
+pub loop-i-preserved : goal.loop-i-preserved
+loop-i-preserved c =
+    c.loop-i.invariant ∙ rw (step (goal.at.loop-i-preserved c).In-loop-i, eq-eqb _ _ c.if-c.false, eq-eqb _ _ c.if-c-2.false)
+
+pub returns : goal.returns
+returns c =
+    rw (c.loop-i.invariant, end (goal.at.returns c).After-loop-i)

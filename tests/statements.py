@@ -12,7 +12,7 @@ ROOT = pathlib.Path(__file__).resolve().parent.parent
 
 def declares(text, name, rust):
     if rust:
-        return re.search(rf"^\s*pub (extern \"C\" )?fn {re.escape(name)}\(", text, re.M) is not None
+        return re.search(rf"^\s*pub (extern \"C\" )?fn {re.escape(name)}[<(]", text, re.M) is not None
     return re.search(rf"^\s*(abbrev |unfoldable )?(pub )?(record |data )?{re.escape(name)} (:|\()", text, re.M) is not None
 
 

@@ -1,17 +1,13 @@
 -- Laws of the queue as a list of cells: what its array holds, and how a loop walks it. Assumes nothing.
 use mathlib.Core.Path.{◌≡◌, refl, sym, ap, ◌∙◌}
-use mathlib.Core.Bool.{Bool, true, false}
 use mathlib.Core.List.{List, [], ◌∷◌, ◌++◌}
 use Prim.Native.Nat.{ℕ, zero, suc, ◌+◌, ◌-◌, ◌≤◌, ◌<◌}
 use native.Mathlib.Omega.{arith}
 use native.Mathlib.Numerals.{add-one}
-use lib.Dec.{leb}
 use lib.ListN.{length, get_or, take, drop, replicate, drop_of_length-le}
 use lib.Seq.{drop-append-add, drop-cons, get_or-take, length-take-le, take-nil}
-use borrow.Author.Tests.{leb-true, lt-leb}
-use Rattle.small.specs.Small.{pick, both, padded}
+use Rattle.small.specs.Small.{padded}
 use Rattle.small.proofs.Padded.{take_padded}
-use Rattle.small.proofs.Tests.{both_false}
 use Rattle.queue.specs.Limits.{cell_count}
 use Rattle.queue.specs.Row.{cell, cells_of, queue_of}
 use Rattle.queue.specs.declared.Cell.{Cell}
@@ -57,34 +53,20 @@ module _ (q : Queue) (full : length q.cells ≡ cell_count) (fits : q.len ≤ ce
   unfolding cells_of
   cells_length = length-take-le q.len q.cells (omega arith)
 
+  pub cells_read : (i : ℕ) → i < q.len → get_or (cells_of q) i (cell 0 0) ≡ get_or q.cells i (cell 0 0)
+  unfolding cells_of
+  cells_read i k = get_or-take q.len q.cells i (cell 0 0) k
+
   pub cells_step : (i : ℕ) → i < q.len → drop i (cells_of q) ≡ get_or q.cells i (cell 0 0) ∷ drop (i + 1) (cells_of q)
   unfolding cells_of
   cells_step i k =
       let m : length (take q.len q.cells) ≡ q.len = cells_length in
-      let e : get_or (take q.len q.cells) i (cell 0 0) ≡ get_or q.cells i (cell 0 0) = get_or-take q.len q.cells i (cell 0 0) k in
+      let e : get_or (take q.len q.cells) i (cell 0 0) ≡ get_or q.cells i (cell 0 0) = cells_read i k in
       rw (add-one, ← e) (drop-cons (take q.len q.cells) i (cell 0 0) (omega arith))
 
   pub cells_end : (i : ℕ) → q.len ≤ i → drop i (cells_of q) ≡ []
   unfolding cells_of
   cells_end i k = let m : length (take q.len q.cells) ≡ q.len = cells_length in drop_of_length-le (take q.len q.cells) {i = i} (omega arith)
-
--- THE ROW'S END, 0 where the length is none of a row
-
--- where it is not 0 it is the length
-pub end_some : (l n : ℕ) → n ≡ pick (leb l cell_count) l 0 → 1 ≤ n → (l ≡ n) × (n ≤ cell_count)
-end_some l n e h = go (leb l cell_count) refl e
-  where
-    go : (b : Bool) → leb l cell_count ≡ b → n ≡ pick b l 0 → (l ≡ n) × (n ≤ cell_count)
-    go true t f = (sym f, omega (arith, leb-true l cell_count t))
-    go false t f = absurd (omega arith)
-
--- and where it is 0 there is no row, or no cell in it
-pub end_none : (l n : ℕ) → n ≡ pick (leb l cell_count) l 0 → n ≡ 0 → both (leb 1 l) (leb l cell_count) ≡ false
-end_none l n e z = go (leb l cell_count) e
-  where
-    go : (b : Bool) → n ≡ pick b l 0 → both (leb 1 l) b ≡ false
-    go true f = rw (lt-leb 1 l (omega arith))
-    go false f = both_false (leb 1 l)
 
 -- the cells in use but the first
 drop_take : (n : ℕ) (cs : List Cell) → drop 1 (take n cs) ≡ take (n - 1) (drop 1 cs)

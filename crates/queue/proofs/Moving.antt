@@ -1,24 +1,22 @@
 -- Laws of cells that are stored one after the other (`sets`), of the links of a chain, and of the queue that is left. Assumes nothing.
 use mathlib.Core.Path.{◌≡◌, refl, sym, ap, ◌∙◌}
-use mathlib.Core.Bool.{Bool, true, false}
 use mathlib.Core.List.{List, [], ◌∷◌, ◌++◌, append_assoc}
 use Prim.Native.Nat.{ℕ, zero, suc, ◌+◌, ◌-◌, ◌*◌, ◌≤◌, ◌<◌}
 use native.Mathlib.Omega.{arith}
 use native.Mathlib.Numerals.{add-one}
-use lib.Dec.{eqb}
+use Rattle.std.specs.List.{copy_within}
+use Rattle.std.proofs.lemmas.List.{drop-take}
 use borrow.Author.Tests.{ne_eqb}
-use Rattle.small.specs.Small.{pick}
-use lib.ListN.{length, get_or, take, drop, set, replicate, length-append, length-drop, length-replicate, replicate-append-replicate}
-use lib.Seq.{set_comm, sets, sets-eq, take-take, length-take-le, take-append_seam, get_or-take, get_or-drop, take-set-le, drop-set-lt, drop-drop}
-use Rattle.queue.specs.Limits.{cell_count, filler}
+use lib.ListN.{length, take, drop, set, replicate, length-append, length-drop, length-replicate, replicate-append-replicate}
+use lib.Seq.{set_comm, sets, sets-eq, take-take, length-take-le, take-append_seam}
+use Rattle.queue.specs.Limits.{max_gap, cell_count, filler}
 use Rattle.queue.specs.Row.{cell, cells_of, queue_of, chain, fillers_for, cells_for}
-use Rattle.queue.specs.Moves.{part, link_of, links, links_of, chain_for, chain_to, queue_with}
+use Rattle.queue.specs.Moves.{link_of, links, links_of, chain_for, queue_with, spliced}
 use Rattle.queue.specs.declared.Cell.{Cell}
 use Rattle.queue.specs.declared.Chain.{Chain}
-use Rattle.queue.specs.declared.Next.{Next}
 use Rattle.queue.specs.declared.Queue.{Queue}
-use Rattle.queue.proofs.Cells.{made_row, made_past, cells_length, cells_step}
-use Rattle.queue.proofs.Walking.{part_more}
+use Rattle.queue.specs.declared.Rest.{Rest}
+use Rattle.queue.proofs.Cells.{made_row, made_past, cells_length}
 
 -- STORING
 
@@ -38,10 +36,6 @@ sets_before l i j (x ∷ xs) ys e =
 pub sets_behind : (l : List Cell) (i j : ℕ) (xs ys : List Cell) → j ≡ i + length xs → sets (sets l i xs) j ys ≡ sets l i (xs ++ ys)
 sets_behind l i j [] ys e = let f : j ≡ i = omega arith in rw f
 sets_behind l i j (x ∷ xs) ys e = sets_behind (set l i x) (suc i) j xs ys (omega arith)
-
--- the last of some cells stored first
-pub sets_last : (l : List Cell) (i k : ℕ) (xs : List Cell) (x : Cell) → length xs ≡ k → sets l i (xs ++ (x ∷ [])) ≡ sets (set l (i + k) x) i xs
-sets_last l i k xs x h = sym (sets_before l i (i + k) xs (x ∷ []) (omega arith))
 
 -- cells stored in the array behind some of those in use: the row that they make, and the array past it
 pub sets_row : (n i : ℕ) (l xs : List Cell) → i ≤ n → i + length xs ≤ length l
@@ -70,35 +64,17 @@ made_sets q cs e i k xs a b d full =
 
 -- MOVING
 
--- the cell at i is moved up, behind those that are left: they stay as they are
-module _ (q : Queue) (full : length q.cells ≡ cell_count) (fits : q.len ≤ cell_count) (i : ℕ) (within : i < q.len) (cells : List Cell) where
-  pub move_up : (from to : ℕ) → from ≤ i → from ≤ to → take (i + 1) cells ≡ take (i + 1) q.cells → let x = get_or cells i (cell 0 0) in
-      (take i (set cells (i + (to - from)) x) ≡ take i q.cells)
-      × (sets (set cells (i + (to - from)) x) to (part from i (cells_of q)) ≡ sets cells to (part from (i + 1) (cells_of q)))
-  move_up from to h k same =
-      let x = get_or cells i (cell 0 0) in
-      let e : x ≡ get_or q.cells i (cell 0 0) =
-      sym (get_or-take (i + 1) cells i (cell 0 0) (omega arith)) ∙ ap (λ (l : List Cell). get_or l i (cell 0 0)) same ∙ get_or-take (i + 1) q.cells i (cell 0 0) (omega arith) in
-      let here : drop i (cells_of q) ≡ x ∷ drop (i + 1) (cells_of q) = rw e (cells_step q full fits i within) in
-      let p : i + (to - from) ≡ to + (i - from) = omega arith in
-      let n : length (part from i (cells_of q)) ≡ i - from = length-take-le (i - from) (drop from (cells_of q)) (rw (length-drop, cells_length q full fits) (omega arith)) in (
-        take-set-le i cells (i + (to - from)) x (omega arith) ∙ sym (take-take i (i + 1) cells (omega arith)) ∙ ap (take i) same ∙ take-take i (i + 1) q.cells (omega arith),
-        rw (p, part_more from i x (cells_of q) h here) (sym (sets_last cells to (i - from) (part from i (cells_of q)) x n)),
-      )
-
-  -- and down, before those that are left
-  pub move_down : (p : ℕ) → p ≤ i → drop i cells ≡ drop i q.cells → let x = get_or cells i (cell 0 0) in
-      (drop (i + 1) (set cells p x) ≡ drop (i + 1) q.cells)
-      × (sets (set cells p x) (p + 1) (drop (i + 1) (cells_of q)) ≡ sets cells p (drop i (cells_of q)))
-  move_down p h same =
-      let x = get_or cells i (cell 0 0) in
-      let z : i + 0 ≡ i = omega arith in
-      let e : x ≡ get_or q.cells i (cell 0 0) =
-      rw z at (sym (get_or-drop i cells 0 (cell 0 0)) ∙ ap (λ (l : List Cell). get_or l 0 (cell 0 0)) same ∙ get_or-drop i q.cells 0 (cell 0 0)) in
-      let here : drop i (cells_of q) ≡ x ∷ drop (i + 1) (cells_of q) = rw e (cells_step q full fits i within) in (
-        drop-set-lt (i + 1) cells p x (omega arith) ∙ sym (drop-drop 1 i cells) ∙ ap (drop 1) same ∙ drop-drop 1 i q.cells,
-        rw (here, add-one),
-      )
+-- the cells in use from a place on, copied to another place
+pub copied : (q : Queue) (from to : ℕ) → length q.cells ≡ cell_count → q.len ≤ cell_count → from ≤ q.len → to + (q.len - from) ≤ cell_count
+    → copy_within q.cells from q.len to ≡ sets q.cells to (drop from (cells_of q))
+unfolding cells_of
+copied q from to full fits h k =
+    let n = q.len - from in
+    let e : from + n ≡ q.len = omega arith in
+    let t : take n (drop from q.cells) ≡ drop from (take q.len q.cells) = rw e at (sym (drop-take from n q.cells)) in
+    let l : length (take n (drop from q.cells)) ≡ n = length-take-le n (drop from q.cells) (rw length-drop (omega arith)) in
+    let s = sets-eq (take n (drop from q.cells)) q.cells to (omega arith) in
+    rw (← t) (rw append_assoc (sym (s ∙ rw (l, append_assoc))))
 
 -- LINKS
 
@@ -117,15 +93,41 @@ links_chain M zero id g = refl
 links_chain M (suc k) id g = rw (ne_eqb (suc k) 0 (λ e. omega arith)) (ap {B = List Cell} (λ l. cell filler g ∷ l) (links_chain M k id M))
 
 -- the links of a gap's chain are its cells
-pub chain_cells : (M g id : ℕ) → links_of M (chain_for M g) id ≡ cells_for M g id
+pub chain_cells : (M g id : ℕ) → links_of M (chain_for M g id) ≡ cells_for M g id
 unfolding chain_for cells_for
 chain_cells M g id = rw add-one (links_chain M (fillers_for M g) id (g - fillers_for M g * M))
 
--- the chain to the next event is at most that of its gap
-pub to_cells : (M u : ℕ) (n : Next) → (chain_to M u n).cells ≤ fillers_for M (n.at - u) + 1
-unfolding chain_to chain_for
-to_cells M u n = go (eqb n.id filler)
-  where
-    go : (b : Bool) → (pick {A = Chain} b (record { cells = 0; gap = 0 }) (chain_for M (n.at - u))).cells ≤ fillers_for M (n.at - u) + 1
-    go true = omega arith
-    go false = omega arith
+-- SPLICING: a chain and what is left behind it, in a row of an array
+module _ (q : Queue) (full : length q.cells ≡ cell_count) (fits : q.len ≤ cell_count) (start : ℕ) (own : Chain) (rest : Rest) (at : start ≤ q.len) (within : rest.behind ≤ q.len) where
+  abbrev pub pieces : List Cell
+  pieces = links_of max_gap own ++ (links_of max_gap rest.then ++ drop rest.behind (cells_of q))
+
+  abbrev pub spliced_to : ℕ
+  spliced_to = start + own.cells + rest.then.cells + (q.len - rest.behind)
+
+  pub pieces_length : length pieces ≡ own.cells + (rest.then.cells + (q.len - rest.behind))
+  pieces_length =
+      let d : length (drop rest.behind (cells_of q)) ≡ q.len - rest.behind = rw (length-drop, cells_length q full fits) in
+      rw (
+        length-append (links_of max_gap own) (links_of max_gap rest.then ++ drop rest.behind (cells_of q)),
+        length-append (links_of max_gap rest.then) (drop rest.behind (cells_of q)),
+        links_length max_gap own.cells own.id own.gap,
+        links_length max_gap rest.then.cells rest.then.id rest.then.gap,
+        d,
+      )
+
+  -- the new row is as long as its parts are
+  pub spliced_length : (row : List Cell) → row ≡ take start (cells_of q) ++ pieces → length row ≡ spliced_to
+  spliced_length row e =
+      let h : length (take start (cells_of q)) ≡ start = length-take-le start (cells_of q) (rw (cells_length q full fits) at) in
+      ap length e ∙ rw (length-append (take start (cells_of q)) pieces, h, pieces_length) (omega arith)
+
+  -- and the array past it is as it was
+  pub spliced_row : (row : List Cell) → row ≡ take start (cells_of q) ++ pieces → spliced_to ≤ cell_count
+      → spliced start own rest q ≡ queue_with (row ++ drop (length row) q.cells) (length row)
+  unfolding spliced cells_of
+  spliced_row row e h =
+      let s = sets_row q.len start q.cells pieces at (omega (arith, pieces_length)) in
+      let f : sets q.cells start pieces ≡ row ++ drop (length row) q.cells = s ∙ ap (λ (l : List Cell). l ++ drop (length l) q.cells) (sym e) in
+      let n : spliced_to ≡ length row = sym (spliced_length row e) in
+      λ j. record { cells = f j; len = n j }

@@ -7,29 +7,23 @@ use Prim.Native.Nat.{ℕ, suc, ◌+◌, ◌-◌, ◌*◌, ◌≤◌, ◌<◌}
 use native.Mathlib.Omega.{arith}
 use lib.Dec.{eqb}
 use lib.ListN.{length, get_or, take, drop, set, length-append, length-drop, take-append-drop}
-use lib.Seq.{drop-drop, drop-append-add, drop-append-le, length-take-le, take_at, take-take}
+use lib.Seq.{get_or-drop, drop-drop, drop-append-add, drop-append-le, length-take-le, take_at, take-take}
 use borrow.Author.Tests.{eqb-true, le-leb, lt-leb, le-ltb}
 use Rattle.small.specs.Small.{pick}
 use Rattle.small.proofs.Tests.{contrary}
-use Rattle.queue.specs.Limits.{cell_count, filler}
-use Rattle.queue.specs.Row.{cell, cells_of, chain}
-use Rattle.queue.specs.Steps.{rest_step, place_from, place_cells, place_step}
-use Rattle.queue.specs.Moves.{fullb, plainb, walk, pass_of, queue_with}
+use Rattle.queue.specs.Limits.{max_gap, cell_count, filler}
+use Rattle.queue.specs.Row.{cell, cells_of, chain, cells_for}
+use Rattle.queue.specs.Steps.{rest_step, regrouped, place_from, place_cells, place_step}
+use Rattle.queue.specs.Moves.{fullb, plainb, Passed, queue_with, down}
 use Rattle.queue.specs.declared.Cell.{Cell}
 use Rattle.queue.specs.declared.Queue.{Queue}
 use Rattle.queue.specs.declared.Walk.{Walk}
-use Rattle.queue.proofs.Cells.{cells_length, cells_step, cells_end, rest_cells}
+use Rattle.queue.proofs.Cells.{cells_length, cells_read, cells_step, cells_end, rest_cells}
 use Rattle.queue.proofs.Normal.{chain_of_lem, one_cell}
-use Rattle.queue.proofs.Walking.{part_none, pass_either, pass_next, placing, place_pass}
 use Rattle.queue.proofs.Placing.{place_chain}
-use Rattle.queue.proofs.Ticking.{down, down_store, down_stores}
+use Rattle.queue.proofs.Ticking.{down_store, down_stores}
 
 -- A PLAIN PLACE
-
--- a test that is made only where another fails
-pub chosen : (f b : Bool) → pick f false b ≡ true → (f ≡ false) × (b ≡ true)
-chosen true b e = contrary e refl
-chosen false b e = (refl, e)
 
 -- a cell that begins the cells of an event, whatever its gap is: so many fillers, the event, and what stands behind it
 pub record Chained (M : ℕ) (c : Cell) (cs : List Cell) : Type 0 where
@@ -81,55 +75,31 @@ place_plain M id d t c cs m g h l p =
     ∙ rw (lt-leb (t + (c.gap + k * M)) d (omega arith), one_cell M id (d - t) m (omega arith), s, chain_of_lem M k x.id r (omega arith) (omega arith))
     (ap {B = List Cell} (λ k. cell id (d - t) ∷ k) (sym (x.made r)))
 
--- THE WALK
-
--- past the cells that are moved down: all behind the first, up to the place i, with the last of them `at` away. Where that is no filler, nothing is held back
-pub record Moved (q : Queue) (d i at : ℕ) (f : Bool) : Type 0 where
-  pub w : Walk
-  pub place : w.next + 1 ≡ i
-  pub away : w.at ≡ at
-  pub start_by : w.start ≤ w.next
-  pub last : f ≡ false → (w.start ≡ w.next) × (w.last ≡ w.at)
-  pub row : (M id : ℕ) → place_cells M id d (drop 1 (cells_of q)) ≡ placing M id d (drop 1 (cells_of q)) w
-
--- before any is passed
-pub moved_none : (q : Queue) (d : ℕ) (f : Bool) → Moved q d 1 0 f
-moved_none q d f = record { w = walk 0 0 0 0; place = refl; away = refl; start_by = omega arith; last = λ e. (refl, refl); row = λ M id. refl }
-
--- what stands at a place behind the first cell
-behind : (q : Queue) (k i : ℕ) → k + 1 ≡ i → drop k (drop 1 (cells_of q)) ≡ drop i (cells_of q)
-behind q k i e = let f : 1 + k ≡ i = omega arith in drop-drop k 1 (cells_of q) ∙ ap (λ (j : ℕ). drop j (cells_of q)) f
+-- THE WALK past the cells behind the first: each is moved down. Where the last of them is no filler, nothing is held back
 
 -- in a function's proof `full` is what owning the queue tells
-module _ (q : Queue) (full : length q.cells ≡ cell_count) (fits : q.len ≤ cell_count) (d i at : ℕ) where
-  -- one cell more
-  pub moved_more : (f : Bool) → Moved q d i at f → i < q.len → let c = get_or q.cells i (cell 0 0) in
-      at + c.gap ≤ d → Moved q d (i + 1) (at + c.gap) (eqb c.id filler)
-  moved_more f m h k =
-      let w = m.w in
-      let c = get_or q.cells i (cell 0 0) in
-      let here : drop w.next (drop 1 (cells_of q)) ≡ c ∷ drop (w.next + 1) (drop 1 (cells_of q)) =
-      behind q w.next i m.place ∙ cells_step q full fits i h
-      ∙ ap (λ (l : List Cell). c ∷ l) (sym (behind q (w.next + 1) (i + 1) (ap (λ (j : ℕ). j + 1) m.place))) in
-      record {
-        w = pass_of w c;
-        place = rw (pass_next w c, m.place);
-        away = pass_either (λ r. r.at ≡ at + c.gap) w c (λ e. rw m.away) (λ e. rw m.away);
-        start_by = pass_either (λ r. r.start ≤ r.next) w c (λ e. omega (arith, m.start_by)) (λ e. omega arith);
-        last = λ n. pass_either (λ r. (r.start ≡ r.next) × (r.last ≡ r.at)) w c (λ e. contrary e n) (λ e. (refl, refl));
-        row = λ M id. m.row M id ∙ place_pass M id (drop 1 (cells_of q)) w c m.start_by here d (rw m.away k);
-      }
+module _ (q : Queue) (full : length q.cells ≡ cell_count) (fits : q.len ≤ cell_count) (M id d : ℕ) (w : Walk) (p : Passed (drop 1 (cells_of q)) d w) (e : w.start ≡ w.next)
+    (in_row : w.next < q.len) (large : max_gap ≤ M) where
+  -- what stands behind the cells that are passed
+  pub passed_behind : drop w.next (drop 1 (cells_of q)) ≡ drop (w.next + 1) (cells_of q)
+  passed_behind = let f : 1 + w.next ≡ w.next + 1 = omega arith in drop-drop w.next 1 (cells_of q) ∙ ap (λ (j : ℕ). drop j (cells_of q)) f
 
-  -- the row: the cells that are moved, and what comes of those that are left
-  moved_row : Moved q d i at false → i ≤ q.len → (M id : ℕ)
-      → place_cells M id d (drop 1 (cells_of q)) ≡ take (i - 1) (drop 1 q.cells) ++ place_from M id d at at [] (drop i (cells_of q))
-  moved_row m h M id =
-      let w = m.w in
-      let l = m.last refl in
-      let e : w.next ≡ i - 1 = omega (arith, m.place) in
-      let t : take (i - 1) (drop 1 (cells_of q)) ≡ take (i - 1) (drop 1 q.cells) =
-      ap (take (i - 1)) (rest_cells q) ∙ take-take (i - 1) (q.len - 1) (drop 1 q.cells) (omega arith) in
-      m.row M id ∙ rw (l.0, l.1, part_none w.next w.next (drop 1 (cells_of q)) (omega arith), behind q w.next i m.place, m.away, e, t)
+  -- the row: the cells that are moved, the event, and what comes of those that are left
+  moved_row : place_cells M id d (drop 1 (cells_of q)) ≡ take w.next (drop 1 q.cells) ++ (cells_for M (d - w.at) id ++ regrouped M w.at d (drop (w.next + 1) (cells_of q)))
+  moved_row =
+      let t : take w.next (drop 1 (cells_of q)) ≡ take w.next (drop 1 q.cells) =
+      ap (take w.next) (rest_cells q) ∙ take-take w.next (q.len - 1) (drop 1 q.cells) (omega arith) in
+      p.row M id ∙ rw (e, p.walked.event e, passed_behind, t)
+
+  -- the cell behind is further away
+  pub passed_beyond : w.next + 1 < q.len → let c = get_or q.cells (w.next + 1) (cell 0 0) in (d < w.at + c.gap) × (c.gap ≤ M)
+  passed_beyond h =
+      let n : length (drop 1 (cells_of q)) ≡ q.len - 1 = rw (length-drop, cells_length q full fits) in
+      let f : 1 + w.next ≡ w.next + 1 = omega arith in
+      let g : get_or (drop 1 (cells_of q)) w.next (cell 0 0) ≡ get_or q.cells (w.next + 1) (cell 0 0) =
+      rw f at (get_or-drop 1 (cells_of q) w.next (cell 0 0)) ∙ cells_read q full fits (w.next + 1) h in
+      let b = p.beyond (omega arith) in
+      (rw g at b.0, omega (arith, rw g at b.1))
 
 -- WHAT IS STORED
 
@@ -160,20 +130,6 @@ module _ (q : Queue) (full : length q.cells ≡ cell_count) (fits : q.len ≤ ce
       let f : drop q.len (rest ++ past) ≡ drop q.len q.cells = rw (n, k) at (drop-append-add rest past 1) in
       sym (rw a (placed_room M id d p row (rw b e) (omega arith) (omega arith) ∙ rw (l, f)))
 
-  -- behind all cells: the event is the last
-  pub again_last : (i at : ℕ) → Moved q d i at false → 1 ≤ i → i ≡ q.len → 1 ≤ M → d - at ≤ M
-      → queue_with (set (down (i - 1) q.cells) (i - 1) (cell id (d - at))) q.len ≡ (place_step M (rest_step q) id d).queue
-  again_last i at m p h o g =
-      let head = take (i - 1) (drop 1 q.cells) in
-      let x = cell id (d - at) in
-      let l : length head ≡ i - 1 = length-take-le (i - 1) (drop 1 q.cells) (rw length-drop (omega arith)) in
-      let e : place_cells M id d (drop 1 (cells_of q)) ≡ head ++ (x ∷ []) =
-      moved_row q full fits d i at m (omega arith) M id ∙ rw (cells_end q full fits i (omega arith), one_cell M id (d - at) o g) in
-      let k : i - 1 + 1 ≡ q.len = omega arith in
-      let s : set (down (i - 1) q.cells) (i - 1) x ≡ (head ++ (x ∷ [])) ++ drop q.len q.cells =
-      rw append_assoc (rw k at (down_store q.cells (i - 1) x (omega arith))) in
-      ap (λ (cs : List Cell). queue_with cs q.len) s ∙ again_row (head ++ (x ∷ [])) (omega arith) e (rw (length-append, l) (omega arith))
-
   -- the cells from a place on, in use or not
   all_behind : (i : ℕ) → i ≤ q.len → drop i (cells_of q) ++ drop q.len q.cells ≡ drop i q.cells
   unfolding cells_of
@@ -181,23 +137,39 @@ module _ (q : Queue) (full : length q.cells ≡ cell_count) (fits : q.len ≤ ce
       let l : length (take q.len q.cells) ≡ q.len = length-take-le q.len q.cells (omega arith) in
       sym (drop-append-le i (take q.len q.cells) (drop q.len q.cells) (omega arith)) ∙ ap (drop i) (take-append-drop q.len q.cells)
 
-  -- before a cell, at a plain place
-  pub again_within : (i at : ℕ) → Moved q d i at false → 1 ≤ i → i < q.len → 1 ≤ M → at ≤ d → let c = get_or q.cells i (cell 0 0) in
-      c.gap ≤ M → d < at + c.gap → plainb M (d - at) (drop i (cells_of q)) ≡ true
-      → queue_with (set (set (down (i - 1) q.cells) i (cell c.id (c.gap - (d - at)))) (i - 1) (cell id (d - at))) q.len
-      ≡ (place_step M (rest_step q) id d).queue
-  again_within i at m p h o n g b t =
-      let c = get_or q.cells i (cell 0 0) in
-      let head = take (i - 1) (drop 1 q.cells) in
-      let x = cell id (d - at) in
-      let y = cell c.id (c.gap - (d - at)) in
-      let tail = drop (i + 1) (cells_of q) in
-      let l : length head ≡ i - 1 = length-take-le (i - 1) (drop 1 q.cells) (rw length-drop (omega arith)) in
-      let j : length tail ≡ q.len - (i + 1) = rw (length-drop, cells_length q full fits) in
-      let here = cells_step q full fits i h in
-      let u : plainb M (d - at) (c ∷ tail) ≡ true = rw here at t in
-      let e : place_cells M id d (drop 1 (cells_of q)) ≡ head ++ (x ∷ y ∷ tail) =
-      moved_row q full fits d i at m (omega arith) M id ∙ rw (here, place_plain M id d at c tail o g n b u) in
-      let s : set (set (down (i - 1) q.cells) i y) (i - 1) x ≡ (head ++ (x ∷ y ∷ tail)) ++ drop q.len q.cells =
-      rw (append_assoc, all_behind (i + 1) (omega arith)) (down_stores q.cells i x y p (omega arith)) in
-      ap (λ (cs : List Cell). queue_with cs q.len) s ∙ again_row (head ++ (x ∷ y ∷ tail)) (omega arith) e (rw (length-append, l, j) (omega arith))
+  module _ (w : Walk) (p : Passed (drop 1 (cells_of q)) d w) (e : w.start ≡ w.next) (in_row : w.next < q.len) (large : max_gap ≤ M) where
+    -- behind all cells: the event is the last
+    pub again_last : q.len ≤ w.next + 1 → d - w.at ≤ M → queue_with (set (down w.next q.cells) w.next (cell id (d - w.at))) q.len ≡ (place_step M (rest_step q) id d).queue
+    again_last h g =
+        let head = take w.next (drop 1 q.cells) in
+        let x = cell id (d - w.at) in
+        let l : length head ≡ w.next = length-take-le w.next (drop 1 q.cells) (rw length-drop (omega arith)) in
+        let r : place_cells M id d (drop 1 (cells_of q)) ≡ head ++ (x ∷ []) =
+        moved_row q full fits M id d w p e in_row large ∙ rw (cells_end q full fits (w.next + 1) h, one_cell M id (d - w.at) (omega arith) g) in
+        let k : w.next + 1 ≡ q.len = omega arith in
+        let s : set (down w.next q.cells) w.next x ≡ (head ++ (x ∷ [])) ++ drop q.len q.cells =
+        rw append_assoc (rw k at (down_store q.cells w.next x (omega arith))) in
+        ap (λ (cs : List Cell). queue_with cs q.len) s ∙ again_row (head ++ (x ∷ [])) (omega arith) r (rw (length-append, l) (omega arith))
+
+    -- before a cell, at a plain place
+    pub again_within : w.next + 1 < q.len → let c = get_or q.cells (w.next + 1) (cell 0 0) in
+        plainb M (d - w.at) (drop (w.next + 1) (cells_of q)) ≡ true
+        → queue_with (set (set (down w.next q.cells) (w.next + 1) (cell c.id (c.gap - (d - w.at)))) w.next (cell id (d - w.at))) q.len
+        ≡ (place_step M (rest_step q) id d).queue
+    again_within h t =
+        let c = get_or q.cells (w.next + 1) (cell 0 0) in
+        let head = take w.next (drop 1 q.cells) in
+        let x = cell id (d - w.at) in
+        let y = cell c.id (c.gap - (d - w.at)) in
+        let tail = drop (w.next + 1 + 1) (cells_of q) in
+        let b = passed_beyond q full fits M id d w p e in_row large h in
+        let l : length head ≡ w.next = length-take-le w.next (drop 1 q.cells) (rw length-drop (omega arith)) in
+        let j : length tail ≡ q.len - (w.next + 1 + 1) = rw (length-drop, cells_length q full fits) in
+        let here = cells_step q full fits (w.next + 1) h in
+        let u : plainb M (d - w.at) (c ∷ tail) ≡ true = rw here at t in
+        let v : cells_for M (d - w.at) id ++ regrouped M w.at d (c ∷ tail) ≡ x ∷ y ∷ tail =
+        rw (lt-leb (w.at + c.gap) d b.0) at (place_plain M id d w.at c tail (omega arith) b.1 p.near b.0 u) in
+        let r : place_cells M id d (drop 1 (cells_of q)) ≡ head ++ (x ∷ y ∷ tail) = moved_row q full fits M id d w p e in_row large ∙ rw here (ap (λ (z : List Cell). head ++ z) v) in
+        let s : set (set (down w.next q.cells) (w.next + 1) y) w.next x ≡ (head ++ (x ∷ y ∷ tail)) ++ drop q.len q.cells =
+        rw (append_assoc, all_behind (w.next + 1 + 1) (omega arith)) (down_stores q.cells w.next x y (omega arith)) in
+        ap (λ (cs : List Cell). queue_with cs q.len) s ∙ again_row (head ++ (x ∷ y ∷ tail)) (omega arith) r (rw (length-append, l, j) (omega arith))

@@ -6,29 +6,27 @@ use mathlib.Core.List.{List, [], ◌∷◌, ◌++◌, append_assoc, append-nil}
 use Prim.Native.Nat.{ℕ, zero, suc, ◌+◌, ◌-◌, ◌*◌, ◌/◌, ◌≤◌, ◌<◌}
 use native.Mathlib.Omega.{arith}
 use native.Mathlib.Nat.{div-mul-le_self, zero-mul, suc-mul}
-use native.Mathlib.Decide.{dec_lt}
+use Rattle.std.specs.Prelude.{Option, Some, None}
 use lib.Dec.{leb, ltb, eqb}
-use lib.ListN.{length, get_or, drop, length-drop}
+use lib.ListN.{length, drop}
 use lib.Seq.{drop-drop}
 use borrow.Author.Tests.{leb-true, leb-false, lt-leb, le-ltb}
 use Rattle.small.specs.Small.{pick}
-use Rattle.small.proofs.Tests.{contrary}
 use Rattle.refusal.specs.Numbers.{no_room}
 use Rattle.refusal.specs.Refusal.{check, first_of}
 use Rattle.queue.specs.Limits.{cell_count, filler}
 use Rattle.queue.specs.Row.{Event, event, cell, cells_of, queue_of, events_of, chain, cells_for, normal}
 use Rattle.queue.specs.Calls.{changed, formed, overfull, with_event, without_event}
 use Rattle.queue.specs.Steps.{regrouped, place_from, place_cells, place_step}
-use Rattle.queue.specs.Moves.{next, next_of, chain_to, behind_of, remove_from, remove_cells}
+use Rattle.queue.specs.Moves.{next, next_of, remove_from, remove_cells}
 use Rattle.queue.specs.declared.Cell.{Cell}
 use Rattle.queue.specs.declared.Queue.{Queue}
 use Rattle.queue.specs.declared.Next.{Next}
-use Rattle.queue.proofs.Cells.{made_len, made_past, cells_length, cells_step, cells_end}
+use Rattle.queue.proofs.Cells.{made_len, made_past}
 use Rattle.queue.specs.Meaning.{Sorted}
 use Rattle.queue.proofs.Normal.{Proper, sorted_events, proper_events}
 use Rattle.queue.proofs.SoundLaws.{Sound, sound_cells}
 use Rattle.queue.proofs.Events.{with_more, without_fewer}
-use Rattle.queue.proofs.Moving.{chain_cells}
 
 -- a gap is what its cells take
 whole : (M g : ℕ) → g - (g - 1) / M * M + (g - 1) / M * M ≡ g
@@ -140,71 +138,34 @@ remove_normal M id t (e ∷ es) s p =
 
 -- THE NEXT EVENT
 
--- cells that are counted from another time: the next event, and what stands behind it
-pub regrouped_next : (M t u i : ℕ) (ds cs : List Cell) → ds ≡ drop i cs → regrouped M t u ds ≡ behind_of M u (next_of t i ds) cs
-unfolding behind_of chain_to
-regrouped_next M t u i [] cs h = h
+-- the cells of the next event when it is counted from u, and all cells behind it; none where there is no event
+abbrev pub left_of : ℕ → ℕ → Option Next → List Cell → List Cell
+left_of M u None cs = []
+left_of M u (Some n) cs = cells_for M (n.at - u) n.id ++ drop n.behind cs
+
+-- that is what is left of cells that are counted from another time
+pub regrouped_next : (M t u i : ℕ) (ds cs : List Cell) → ds ≡ drop i cs → regrouped M t u ds ≡ left_of M u (next_of t i ds) cs
+regrouped_next M t u i [] cs h = refl
 regrouped_next M t u i (c ∷ ds) cs h =
     let f : ds ≡ drop (i + 1) cs = ap (drop 1) h ∙ drop-drop 1 i cs in
-    go (eqb c.id filler) refl f (regrouped_next M (t + c.gap) u (i + 1) ds cs f)
+    go (eqb c.id filler) f (regrouped_next M (t + c.gap) u (i + 1) ds cs f)
   where
-    go : (b : Bool) → eqb c.id filler ≡ b → ds ≡ drop (i + 1) cs → regrouped M (t + c.gap) u ds ≡ behind_of M u (next_of (t + c.gap) (i + 1) ds) cs
-        → pick b (regrouped M (t + c.gap) u ds) (cells_for M (t + c.gap - u) c.id ++ ds) ≡ behind_of M u (pick b (next_of (t + c.gap) (i + 1) ds) (next c.id (t + c.gap) (i + 1))) cs
-    go true q f r = r
-    go false q f r = rw (q, chain_cells M (t + c.gap - u) c.id) (ap (λ (l : List Cell). cells_for M (t + c.gap - u) c.id ++ l) f)
+    go : (b : Bool) → ds ≡ drop (i + 1) cs → regrouped M (t + c.gap) u ds ≡ left_of M u (next_of (t + c.gap) (i + 1) ds) cs
+        → pick b (regrouped M (t + c.gap) u ds) (cells_for M (t + c.gap - u) c.id ++ ds) ≡ left_of M u (pick b (next_of (t + c.gap) (i + 1) ds) (Some (next c.id (t + c.gap) (i + 1)))) cs
+    go true f r = r
+    go false f r = ap (λ (l : List Cell). cells_for M (t + c.gap - u) c.id ++ l) f
 
 -- its place is in the row
-pub next_within : (t i : ℕ) (cs : List Cell) → (next_of t i cs).behind ≤ i + length cs
-next_within t i [] = omega arith
-next_within t i (c ∷ cs) = go (eqb c.id filler) (next_within (t + c.gap) (i + 1) cs)
+pub next_within : (t i : ℕ) (cs : List Cell) (n : Next) → next_of t i cs ≡ Some n → n.behind ≤ i + length cs
+next_within t i [] n e = cc
+next_within t i (c ∷ cs) n e = go (eqb c.id filler) e (next_within (t + c.gap) (i + 1) cs n)
   where
-    go : (b : Bool) → (next_of (t + c.gap) (i + 1) cs).behind ≤ i + 1 + length cs
-        → (pick b (next_of (t + c.gap) (i + 1) cs) (next c.id (t + c.gap) (i + 1))).behind ≤ i + suc (length cs)
-    go true h = omega arith
-    go false h = omega arith
-
--- and it is no nearer than the first cell
-pub next_later : (t i : ℕ) (cs : List Cell) → t ≤ (next_of t i cs).at
-next_later t i [] = omega arith
-next_later t i (c ∷ cs) = go (eqb c.id filler) (next_later (t + c.gap) (i + 1) cs)
-  where
-    go : (b : Bool) → t + c.gap ≤ (next_of (t + c.gap) (i + 1) cs).at → t ≤ (pick b (next_of (t + c.gap) (i + 1) cs) (next c.id (t + c.gap) (i + 1))).at
-    go true h = omega arith
-    go false h = omega arith
-
-pub next_beyond : (t i : ℕ) (c : Cell) (cs : List Cell) → t + c.gap ≤ (next_of t i (c ∷ cs)).at
-next_beyond t i c cs = go (eqb c.id filler)
-  where
-    go : (b : Bool) → t + c.gap ≤ (pick b (next_of (t + c.gap) (i + 1) cs) (next c.id (t + c.gap) (i + 1))).at
-    go true = next_later (t + c.gap) (i + 1) cs
-    go false = omega arith
-
--- what the next event n is to a queue whose cells from the place i on are counted from t
-pub record Following (q : Queue) (t i : ℕ) (n : Next) : Type 0 where
-  pub within : n.behind ≤ q.len
-  pub later : t ≤ n.at
-  pub beyond : (d : ℕ) → (i < q.len → d < t + (get_or q.cells i (cell 0 0)).gap) → eqb n.id filler ≡ false → d ≤ n.at
-  pub tail : (M u : ℕ) → regrouped M t u (drop i (cells_of q)) ≡ behind_of M u n (cells_of q)
-
--- in a function's proof `full` is what owning the queue tells
-pub following : (q : Queue) → length q.cells ≡ cell_count → q.len ≤ cell_count → (t i : ℕ) → i ≤ q.len → (n : Next) → n ≡ next_of t i (drop i (cells_of q)) → Following q t i n
-following q full fits t i h n e =
-    let l : length (drop i (cells_of q)) ≡ q.len - i = rw (length-drop, cells_length q full fits) in
-    record {
-      within = rw e (omega (arith, next_within t i (drop i (cells_of q))));
-      later = rw e (next_later t i (drop i (cells_of q)));
-      beyond = λ d b. go d b (dec_lt i q.len);
-      tail = λ M u. rw e (regrouped_next M t u i (drop i (cells_of q)) (cells_of q) refl);
-    }
-  where
-    go : (d : ℕ) → (i < q.len → d < t + (get_or q.cells i (cell 0 0)).gap) → Dec (i < q.len) → eqb n.id filler ≡ false → d ≤ n.at
-    go d b (yes k) f =
-        let c = get_or q.cells i (cell 0 0) in
-        let a : n ≡ next_of t i (c ∷ drop (i + 1) (cells_of q)) = e ∙ ap (next_of t i) (cells_step q full fits i k) in
-        rw a (omega (arith, b k, next_beyond t i c (drop (i + 1) (cells_of q))))
-    go d b (no k) f =
-        let a : n ≡ next filler t i = e ∙ ap (next_of t i) (cells_end q full fits i (omega arith)) in
-        contrary (ap (λ (x : Next). eqb x.id filler) a) f
+    go : (b : Bool) → pick b (next_of (t + c.gap) (i + 1) cs) (Some (next c.id (t + c.gap) (i + 1))) ≡ Some n
+        → (next_of (t + c.gap) (i + 1) cs ≡ Some n → n.behind ≤ i + 1 + length cs) → n.behind ≤ i + suc (length cs)
+    go true e h = omega (arith, h e)
+    go false e h =
+        let f : next c.id (t + c.gap) (i + 1) ≡ n = cc in
+        omega (arith, ap (λ (x : Next). x.behind) f)
 
 -- OF A SOUND QUEUE
 

@@ -4,10 +4,9 @@ use mathlib.Core.Bool.{Bool, true, false, not}
 use mathlib.Core.List.{List, [], ◌∷◌, ◌++◌, append_assoc, append-nil}
 use Prim.Native.Nat.{ℕ, zero, suc, ◌+◌, ◌-◌, ◌≤◌, ◌<◌}
 use native.Mathlib.Omega.{arith}
-use native.Mathlib.Numerals.{add-one}
 use lib.Dec.{leb, eqb}
 use lib.ListN.{length, get_or, take, drop, set, replicate, length-set, length-drop, get_or-replicate, take-append-drop}
-use lib.Seq.{get_or-set_same, get_or-set_other, get_or-take, take-suc}
+use lib.Seq.{get_or-set_same, get_or-set_other}
 use borrow.Author.Tests.{eq-eqb, ne_eqb, le-leb, lt-leb, leb-true, leb-false, eqb-true, eqb-false, not-true}
 use Rattle.small.specs.Small.{pick, both, padded}
 use Rattle.small.proofs.Tests.{both_left, both_right, both_false, both_swap, either_true, either_false, contrary}
@@ -22,18 +21,6 @@ use Rattle.queue.proofs.Normal.{Proper, proper_events}
 use Rattle.queue.proofs.Form.{normb_is, normb_normal}
 use Rattle.queue.proofs.SoundLaws.{same_queue}
 use Rattle.queue.proofs.Events.{no_filler}
-
--- no id is above that of a filler: one that is a gap more than it belongs to a filler with gap 0
-pub empty_filler : (id gap : ℕ) → id ≤ filler → not (eqb id (gap + filler)) ≡ pick (eqb id filler) (leb 1 gap) true
-empty_filler id gap h = go (eqb id filler) refl
-  where
-    at : id ≡ filler → (b : Bool) → leb 1 gap ≡ b → not (eqb id (gap + filler)) ≡ b
-    at e true l = let k : 1 ≤ gap = leb-true 1 gap l in ap not (ne_eqb id (gap + filler) (λ d. omega arith))
-    at e false l = let k : gap < 1 = leb-false 1 gap l in ap not (eq-eqb id (gap + filler) (omega arith))
-
-    go : (b : Bool) → eqb id filler ≡ b → not (eqb id (gap + filler)) ≡ pick b (leb 1 gap) true
-    go true q = at (eqb-true id filler q) (leb 1 gap) refl
-    go false q = let d : id ≡ filler → ⊥ = eqb-false id filler q in ap not (ne_eqb id (gap + filler) (λ e. d (omega arith)))
 
 -- THE TAIL
 
@@ -190,15 +177,6 @@ module _ (past : List Cell) (seen : List Bool) (at ids : ℕ) (s : Scanned past 
       go : (b : Bool) → distinctb (events_from 0 past ++ pick b [] (event c.id (0 + gaps_of past + c.gap) ∷ [])) ≡ true
       go true = rw append-nil s.distinct
       go false = distinct_more (events_from 0 past) (event c.id (0 + gaps_of past + c.gap)) s.distinct (sym (s.marked c.id small) ∙ h)
-
--- a walk over the cells in use: one more is passed
-pub cells_past : (q : Queue) → length q.cells ≡ cell_count → q.len ≤ cell_count → (i : ℕ) → i < q.len
-    → take (i + 1) (cells_of q) ≡ take i (cells_of q) ++ (get_or q.cells i (cell 0 0) ∷ [])
-unfolding cells_of
-cells_past q full fits i k =
-    let m : length (take q.len q.cells) ≡ q.len = cells_length q full fits in
-    let e : get_or (take q.len q.cells) i (cell 0 0) ≡ get_or q.cells i (cell 0 0) = get_or-take q.len q.cells i (cell 0 0) k in
-    rw (add-one, ← e) (take-suc (take q.len q.cells) i (cell 0 0) (omega arith))
 
 -- THE WHOLE
 

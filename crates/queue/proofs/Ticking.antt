@@ -6,6 +6,7 @@ use Prim.Native.Nat.{ℕ, zero, suc, ◌+◌, ◌-◌, ◌*◌, ◌/◌, ◌≤�
 use native.Mathlib.Omega.{arith}
 use native.Mathlib.Numerals.{add-one}
 use native.Mathlib.Nat.{zero-mul, suc-mul}
+use Rattle.std.specs.List.{copy_within}
 use lib.Dec.{eqb}
 use lib.ListN.{length, get_or, take, drop, set, replicate, length-drop}
 use lib.Seq.{length-take-le, get_or-append-add, get_or-drop, drop-cons, set_at}
@@ -15,6 +16,7 @@ use Rattle.queue.specs.Limits.{cell_count, filler}
 use Rattle.queue.specs.Row.{Event, cell, cells_of, queue_of, events_of, chain, cells_for, normal}
 use Rattle.queue.specs.Calls.{dueb, earlier, due_id, without_due, formed}
 use Rattle.queue.specs.Steps.{first_cell, due_step, less_head, nearer_step, rest_step, tick_step}
+use Rattle.queue.specs.Moves.{down}
 use Rattle.queue.specs.declared.Cell.{Cell}
 use Rattle.queue.specs.declared.Queue.{Queue}
 use Rattle.queue.proofs.Cells.{made_cells, made_len, made_row, made_past}
@@ -30,35 +32,18 @@ pub less_set : (xs : List Cell) → let c = get_or xs 0 (cell 0 0) in set xs 0 (
 less_set [] = refl
 less_set (c ∷ cs) = refl
 
-pub less_still : (xs : List Cell) → (get_or xs 0 (cell 0 0)).gap ≡ 0 → xs ≡ less_head xs
-less_still [] h = refl
-less_still (c ∷ cs) h = let e : c.gap ≡ c.gap - 1 = omega arith in λ i. (record { id = c.id; gap = e i }) ∷ cs
-
--- the array in which the first j elements have been moved one place down
-abbrev pub down : ℕ → List Cell → List Cell
-down j xs = take j (drop 1 xs) ++ drop j xs
+-- the first j elements moved one place down
+pub copied_down : (xs : List Cell) (j n : ℕ) → n ≡ j + 1 → copy_within xs 1 n 0 ≡ down j xs
+copied_down xs j n e =
+    let a : n - 1 ≡ j = omega arith in
+    let b : 0 + j ≡ j = omega arith in
+    rw (a, b)
 
 -- those from there on stand where they stood
-pub down_read : (xs : List Cell) (i : ℕ) → 1 ≤ i → i < length xs → get_or (down (i - 1) xs) i (cell 0 0) ≡ get_or xs i (cell 0 0)
-down_read xs i p h =
-    let j = i - 1 in
+pub down_read : (xs : List Cell) (j : ℕ) → j + 1 < length xs → get_or (down j xs) (j + 1) (cell 0 0) ≡ get_or xs (j + 1) (cell 0 0)
+down_read xs j h =
     let n : length (take j (drop 1 xs)) ≡ j = length-take-le j (drop 1 xs) (rw length-drop (omega arith)) in
-    let e : j + 1 ≡ i = omega arith in
-    rw (n, e) at (get_or-append-add (take j (drop 1 xs)) (drop j xs) 1 (cell 0 0) ∙ get_or-drop j xs 1 (cell 0 0))
-
-down_move : (j : ℕ) (c : Cell) (ys : List Cell) → j < length ys
-    → set (take j ys ++ drop j (c ∷ ys)) j (get_or (c ∷ ys) (suc j) (cell 0 0)) ≡ take (suc j) ys ++ drop (suc j) (c ∷ ys)
-down_move j c [] h = absurd (omega arith)
-down_move zero c (y ∷ ys) h = refl
-down_move (suc j) c (y ∷ ys) h = ap {B = List Cell} (λ l. y ∷ l) (down_move j y ys (omega arith))
-
-pub down_step : (xs : List Cell) (i : ℕ) → 1 ≤ i → i < length xs → set (down (i - 1) xs) (i - 1) (get_or xs i (cell 0 0)) ≡ down (i + 1 - 1) xs
-down_step [] i p h = absurd (omega arith)
-down_step (c ∷ ys) zero p h = absurd (omega arith)
-down_step (c ∷ ys) (suc j) p h =
-    let a : suc j - 1 ≡ j = omega arith in
-    let b : suc j + 1 - 1 ≡ suc j = omega arith in
-    rw (a, b) (down_move j c ys (omega arith))
+    rw n at (get_or-append-add (take j (drop 1 xs)) (drop j xs) 1 (cell 0 0) ∙ get_or-drop j xs 1 (cell 0 0))
 
 -- a store at the place that is left
 pub down_store : (xs : List Cell) (n : ℕ) (z : Cell) → n < length xs → set (down n xs) n z ≡ take n (drop 1 xs) ++ (z ∷ drop (n + 1) xs)
@@ -73,13 +58,10 @@ stores j c [] x y h = absurd (omega arith)
 stores zero c (z ∷ ys) x y h = refl
 stores (suc j) c (z ∷ ys) x y h = ap {B = List Cell} (λ l. z ∷ l) (stores j z ys x y (omega arith))
 
-pub down_stores : (xs : List Cell) (i : ℕ) (x y : Cell) → 1 ≤ i → i < length xs
-    → set (set (down (i - 1) xs) i y) (i - 1) x ≡ take (i - 1) (drop 1 xs) ++ (x ∷ y ∷ drop (i + 1) xs)
-down_stores [] i x y p h = absurd (omega arith)
-down_stores (c ∷ ys) zero x y p h = absurd (omega arith)
-down_stores (c ∷ ys) (suc j) x y p h =
-    let a : suc j - 1 ≡ j = omega arith in
-    rw (a, add-one) (stores j c ys x y (omega arith))
+pub down_stores : (xs : List Cell) (j : ℕ) (x y : Cell) → j + 1 < length xs
+    → set (set (down j xs) (j + 1) y) j x ≡ take j (drop 1 xs) ++ (x ∷ y ∷ drop (j + 1 + 1) xs)
+down_stores [] j x y h = absurd (omega arith)
+down_stores (c ∷ ys) j x y h = rw (add-one, add-one) (stores j c ys x y (omega arith))
 
 -- ON CELLS
 

@@ -5,28 +5,26 @@ use mathlib.Core.Bool.{Bool, true, false}
 use mathlib.Core.List.{List, [], ◌∷◌, ◌++◌, append_assoc}
 use Prim.Native.Nat.{ℕ, ◌+◌, ◌-◌, ◌*◌, ◌≤◌, ◌<◌}
 use native.Mathlib.Omega.{arith}
+use Rattle.std.specs.Prelude.{Option, Some, None}
+use Rattle.std.specs.Option.{is_some}
 use lib.Dec.{eqb}
-use lib.ListN.{length, take, drop, length-drop}
-use lib.Seq.{take_all, take-add, drop-drop}
+use lib.ListN.{length, take, drop}
+use lib.Seq.{take-add, drop-drop}
 use borrow.Author.Tests.{le-leb}
 use Rattle.small.specs.Small.{pick}
-use Rattle.small.proofs.Tests.{contrary}
 use Rattle.queue.specs.Limits.{max_gap, filler}
-use Rattle.queue.specs.Row.{Event, event, events_of, events_from}
+use Rattle.queue.specs.Row.{Event, event, events_from}
 use Rattle.queue.specs.Sound.{hasb}
 use Rattle.queue.specs.Steps.{place_from}
-use Rattle.queue.specs.Moves.{part, walk, pass_of, Walked, remove_from, Sought, nowhere_found}
+use Rattle.queue.specs.Moves.{part, walk, pass_of, Walked, remove_from, Sought}
 use Rattle.queue.specs.declared.Cell.{Cell}
-use Rattle.queue.specs.declared.Queue.{Queue}
 use Rattle.queue.specs.declared.Walk.{Walk}
+use Rattle.queue.specs.declared.Found.{Found}
 
 -- PARTS OF A ROW
 
 pub part_none : (from to : ℕ) (cs : List Cell) → to ≤ from → part from to cs ≡ []
 part_none from to cs h = let e : to - from ≡ 0 = omega arith in rw e
-
-pub part_rest : (from to : ℕ) (cs : List Cell) → length cs ≤ to → part from to cs ≡ drop from cs
-part_rest from to cs h = take_all (to - from) (drop from cs) (rw (length-drop from cs) (omega arith))
 
 -- the cells up to a place are those up to a place before it, and those from there on
 pub take_part : (from to : ℕ) (cs : List Cell) → from ≤ to → take to cs ≡ take from cs ++ part from to cs
@@ -63,21 +61,21 @@ pass_either P w c f g = go (eqb c.id filler) f g
     go true f g = f refl
     go false f g = g refl
 
-pub walked_none : (q : Queue) → Walked q (walk 0 0 0 0)
-walked_none q = record { start_by = omega arith; in_row = omega arith; last_by = omega arith; small = omega arith }
+pub walked_none : (cs : List Cell) → Walked cs (walk 0 0 0 0)
+walked_none cs = record { start_by = omega arith; in_row = omega arith; last_by = omega arith; event = λ e. refl; small = omega arith }
 
-pub walked_pass : (q : Queue) (w : Walk) (c : Cell) → Walked q w → w.next < q.len → c.gap ≤ max_gap → Walked q (pass_of w c)
-walked_pass q w c p h g =
+pub walked_pass : (cs : List Cell) (w : Walk) (c : Cell) → Walked cs w → w.next < length cs → c.gap ≤ max_gap → Walked cs (pass_of w c)
+walked_pass cs w c p h g =
     let m : w.at + c.gap ≤ max_gap * (w.next + 1) = omega arith in
-    pass_either (Walked q) w c
-    (λ e. record { start_by = omega arith; in_row = omega arith; last_by = omega arith; small = m })
-    (λ e. record { start_by = omega arith; in_row = omega arith; last_by = omega arith; small = m })
+    pass_either (Walked cs) w c
+    (λ e. record { start_by = omega arith; in_row = omega arith; last_by = omega arith; event = λ f. absurd (omega (arith, p.start_by)); small = m })
+    (λ e. record { start_by = omega arith; in_row = omega arith; last_by = omega arith; event = λ f. refl; small = m })
 
 pub pass_next : (w : Walk) (c : Cell) → (pass_of w c).next ≡ w.next + 1
 pass_next w c = pass_either (λ r. r.next ≡ w.next + 1) w c (λ e. refl) (λ e. refl)
 
-pub pass_near : (d : ℕ) (w : Walk) (c : Cell) → w.last ≤ d → w.at + c.gap ≤ d → (pass_of w c).last ≤ d
-pass_near d w c h k = pass_either (λ r. r.last ≤ d) w c (λ e. h) (λ e. k)
+pub pass_near : (d : ℕ) (w : Walk) (c : Cell) → w.at + c.gap ≤ d → (pass_of w c).at ≤ d
+pass_near d w c k = pass_either (λ r. r.at ≤ d) w c (λ e. k) (λ e. k)
 
 -- the row as a walk leaves it: the cells up to the last event that is passed, and what is still to do from there on
 abbrev pub placing : ℕ → ℕ → ℕ → List Cell → Walk → List Cell
@@ -109,16 +107,7 @@ events_pass f cs w c here p =
     (λ e. rw (here, e))
     (λ e. rw (here, e) (p (events_from (w.at + c.gap) (drop (w.next + 1) cs))))
 
--- WHAT IS NOT THERE
-
-pub sought_nowhere : (q : Queue) (id : ℕ) → hasb id (events_of q) ≡ false → Sought q id nowhere_found
-sought_nowhere q id n =
-    record {
-      there = sym n;
-      start_by = omega arith;
-      in_row = omega arith;
-      last_by = omega arith;
-      small = omega arith;
-      away = λ h. contrary h refl;
-      row = λ h. contrary h refl;
-    }
+-- WHAT IS SOUGHT is found where it is there
+pub sought_there : (cs : List Cell) (id : ℕ) (o : Option Found) → Sought cs id o → is_some o ≡ hasb id (events_from 0 cs)
+sought_there cs id (Some f) s = sym s.there
+sought_there cs id None s = sym s

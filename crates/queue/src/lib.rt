@@ -4,17 +4,17 @@
 
 pub mod steps;
 
-ghost use Rattle.std.specs.Prelude.{◌≡◌, [], ◌∷◌, true, false, ◌+◌, ◌-◌, ◌*◌, ◌≤◌, ◌<◌, leb, ltb, eqb, drop, get_or, replicate};
+ghost use Rattle.std.specs.Prelude.{◌≡◌, [], true, false, ◌+◌, ◌-◌, ◌*◌, ◌≤◌, ◌<◌, leb, ltb, eqb, drop, get_or, length, min, replicate};
 ghost use Rattle.std.proofs.lemmas.List.Edits.{sets};
 ghost use Rattle.small.specs.Small.{pick, both};
 ghost use Rattle.queue.specs.Limits.{max_gap, cell_count, longest, filler};
-ghost use Rattle.queue.specs.Row.{cell, cells_of, queue_of, fillers_for};
+ghost use Rattle.queue.specs.Row.{cell, cells_of, queue_of};
 ghost use Rattle.queue.specs.Sound.{soundb};
 ghost use Rattle.queue.specs.Holds.{in_ticks, holdsb};
 ghost use Rattle.queue.specs.Calls.{changed_by, taken_by, left_by, insert_of, remove_of, time_left_of, clock_of, take_of, push_back_of};
 ghost use Rattle.queue.specs.Steps.{first_cell};
-ghost use Rattle.queue.specs.Moves.{seenb, spacedb, gaps_of, sum_of, pass_of, Passed, next_of, Sought, nowhere_found};
-ghost use Rattle.queue.specs.Moves.{chain_for, chain_to, link_of, links_of, queue_with, moved_to, push_cells};
+ghost use Rattle.queue.specs.Moves.{seenb, spacedb, gaps_of, sum_of, pass_of, Passed, next_of, Sought, Regrouped};
+ghost use Rattle.queue.specs.Moves.{chain_for, links_of, queue_with, spliced, push_cells};
 
 use refusal::Reason;
 
@@ -26,6 +26,27 @@ pub struct Cell {
     pub gap: u16,
 }
 
+impl Cell {
+    const ZERO: Cell = Cell { id: 0, gap: 0 };
+
+    fn is_filler(self) -> bool
+        ensures { result ≡ eqb self.id filler }
+    {
+        self.id == Queue::FILLER
+    }
+
+    // Whether the gap is one that the normal form has there.
+    fn is_spaced(self, behind_filler: bool) -> bool
+        ensures { result ≡ spacedb max_gap behind_filler self }
+    {
+        if behind_filler {
+            self.gap == Queue::FULL
+        } else {
+            !self.is_filler() || 0 < self.gap
+        }
+    }
+}
+
 // The first `len` cells are the queue; those past them are zero.
 #[repr(C)]
 #[derive(Clone, Copy)]
@@ -35,7 +56,7 @@ pub struct Queue {
 }
 
 // A distance in clock ticks.
-#[derive(Clone, Copy)]
+#[derive(Clone, Copy, PartialEq, Eq, PartialOrd, Ord)]
 pub struct Distance(pub u32);
 
 impl Queue {
@@ -60,9 +81,17 @@ impl Queue {
         ensures { result ≡ queue_of [] }
     {
         Queue {
-            cells: [Cell { id: 0, gap: 0 }; Queue::CELLS],
+            cells: [Cell::ZERO; Queue::CELLS],
             len: 0,
         }
+    }
+
+    // The cells in use; where the length is none of a row, all that there are.
+    fn row(&self) -> &[Cell]
+        ensures cells { result.now ≡ cells_of self.now }
+        ensures len { length result.now ≡ min self.now.len cell_count }
+    {
+        &self.cells[..self.len.min(Queue::CELLS)]
     }
 }
 
@@ -72,7 +101,49 @@ impl Queue {
     pub fn is_sound(&self) -> bool
         ensures { result ≡ soundb max_gap longest self.now }
     {
-        sound(*self)
+        if Queue::CELLS < self.len {
+            return false;
+        }
+        let mut seen = [false; Queue::IDS];
+        let mut filler = false;
+        let mut at: u32 = 0;
+        let mut ids: u32 = 0;
+        for c in self.row() {
+            let id = usize::from(c.id);
+            if !c.is_spaced(filler) || seen[id] {
+                return false;
+            }
+            filler = c.is_filler();
+            seen[id] = !filler;
+            at += u32::from(c.gap);
+            ids += u32::from(c.id);
+        }
+        if filler || Queue::LONGEST < at {
+            return false;
+        }
+        self.total() == at + ids
+    }
+
+    // The sum of all ids and gaps, those past the last too: it is that of the cells in use where the others are zero.
+    fn total(&self) -> u32
+        ensures { result ≡ sum_of self.now.cells }
+    {
+        let mut sum: u32 = 0;
+        for c in &self.cells {
+            sum += u32::from(c.id) + u32::from(c.gap);
+        }
+        sum
+    }
+
+    // The distance of the last cell.
+    fn end(&self) -> u32
+        ensures { result ≡ gaps_of (cells_of self.now) }
+    {
+        let mut at: u32 = 0;
+        for c in self.row() {
+            at += u32::from(c.gap);
+        }
+        at
     }
 
     // The event stands at that distance, behind all that are due at the same time.
@@ -85,8 +156,7 @@ impl Queue {
         if id == Queue::FILLER {
             return Err(Reason::IdOfFiller);
         }
-        let f = find(*self, id);
-        if f.found {
+        if self.find(id).is_some() {
             return Err(Reason::IdThere);
         }
         if Queue::LONGEST < delay.0 {
@@ -102,16 +172,13 @@ impl Queue {
         if !self.is_sound() {
             return Err(Reason::Unsound);
         }
-        let q = *self;
-        let f = find(q, id);
-        if !f.found {
+        let Some(f) = self.find(id) else {
             return Err(Reason::NoSuchEvent);
-        }
-        let n = next_event(q, f.behind, f.at);
-        let then = chain_to(n, f.last);
-        let rest = down(q, n.behind, f.start + then.cells);
-        let clear = cleared(rest, q.len);
-        *self = linked(clear, f.start, then, n.id);
+        };
+        let end = self.len;
+        let rest = self.regroup(f.behind, f.at, f.last);
+        self.splice(f.start, Chain::NONE, rest);
+        self.clear(end);
         Ok(())
     }
 
@@ -121,11 +188,10 @@ impl Queue {
         if !self.is_sound() {
             return Err(Reason::Unsound);
         }
-        let f = find(*self, id);
-        if !f.found {
-            return Err(Reason::NoSuchEvent);
+        match self.find(id) {
+            Some(f) => Ok(Distance(f.at)),
+            None => Err(Reason::NoSuchEvent),
         }
-        Ok(Distance(f.at))
     }
 
     // Every distance falls by 1.
@@ -164,13 +230,13 @@ impl Queue {
         if !self.is_sound() {
             return Err(Reason::Unsound);
         }
-        if no_room_before(*self) {
+        if self.is_stuck() {
             return Err(Reason::NoRoom);
         }
-        if end_of(*self) == Queue::LONGEST {
+        if self.end() == Queue::LONGEST {
             return Err(Reason::AtLongest);
         }
-        *self = pushed(*self);
+        self.later();
         Ok(())
     }
 
@@ -179,129 +245,45 @@ impl Queue {
     pub fn holds(&self, reach: &[Distance; Queue::HELD]) -> bool
         ensures { result ≡ holdsb max_gap longest (in_ticks reach.now) self.now }
     {
-        held(*self, *reach)
-    }
-}
-
-fn sound(q: Queue) -> bool
-    ensures { result ≡ soundb max_gap longest q }
-{
-    let n = q.len;
-    if Queue::CELLS < n {
-        return false;
-    }
-    let mut seen = [false; Queue::IDS];
-    let mut filler = false;
-    let mut at: u32 = 0;
-    let mut ids: u32 = 0;
-    let mut i: usize = 0;
-    while i < n {
-        let c = q.cells[i];
-        let id = c.id as usize;
-        if !spaced(c, filler) {
+        if !self.is_sound() {
             return false;
         }
-        if seen[id] {
-            return false;
+        let mut seen = [false; Queue::IDS];
+        let mut at: u32 = 0;
+        for c in self.row() {
+            at += u32::from(c.gap);
+            if !in_reach(c.id, at, reach) {
+                return false;
+            }
+            seen[usize::from(c.id)] = true;
         }
-        filler = c.id == Queue::FILLER;
-        seen[id] = !filler;
-        at = at + (c.gap as u32);
-        ids = ids + (c.id as u32);
-        i = i + 1;
+        all_seen(&seen, reach)
     }
-    if filler {
-        return false;
-    }
-    if Queue::LONGEST < at {
-        return false;
-    }
-    total(q) == at + ids
-}
-
-fn held(q: Queue, reach: [Distance; Queue::HELD]) -> bool
-    ensures { result ≡ holdsb max_gap longest (in_ticks reach) q }
-{
-    if !sound(q) {
-        return false;
-    }
-    let n = q.len;
-    let mut seen = [false; Queue::IDS];
-    let mut at: u32 = 0;
-    let mut i: usize = 0;
-    while i < n {
-        let c = q.cells[i];
-        at = at + (c.gap as u32);
-        if !in_reach(c.id, at, reach) {
-            return false;
-        }
-        seen[c.id as usize] = true;
-        i = i + 1;
-    }
-    all_seen(seen, reach)
 }
 
 // A filler, or an event that is 1 to its reach away.
-fn in_reach(id: u8, at: u32, reach: [Distance; Queue::HELD]) -> bool
-    ensures { result ≡ pick (eqb id filler) true (both (ltb 0 at) (leb at (get_or (in_ticks reach) id 0))) }
+fn in_reach(id: u8, at: u32, reach: &[Distance; Queue::HELD]) -> bool
+    ensures { result ≡ pick (eqb id filler) true (both (ltb 0 at) (leb at (get_or (in_ticks reach.now) id 0))) }
 {
     if id == Queue::FILLER {
         return true;
     }
-    if at == 0 {
-        return false;
+    match reach.get(usize::from(id)) {
+        Some(most) => 0 < at && at <= most.0,
+        None => false,
     }
-    let k = id as usize;
-    if Queue::HELD <= k {
-        return false;
-    }
-    let most = reach[k];
-    at <= most.0
 }
 
 // Each reach above 0 has been seen.
-fn all_seen(seen: [bool; Queue::IDS], reach: [Distance; Queue::HELD]) -> bool
-    ensures { result ≡ seenb (in_ticks reach) 0 seen }
+fn all_seen(seen: &[bool; Queue::IDS], reach: &[Distance; Queue::HELD]) -> bool
+    ensures { result ≡ seenb (in_ticks reach.now) 0 seen.now }
 {
-    let mut i: usize = 0;
-    while i < Queue::HELD {
-        let most = reach[i];
-        if 0 < most.0 {
-            if !seen[i] {
-                return false;
-            }
+    for (i, most) in reach.iter().enumerate() {
+        if 0 < most.0 && !seen[i] {
+            return false;
         }
-        i = i + 1;
     }
     true
-}
-
-// SOUNDNESS: one pass over the cells in use, and one sum over all
-
-// Whether a cell's gap is one that the normal form has there.
-fn spaced(c: Cell, behind_filler: bool) -> bool
-    ensures { result ≡ spacedb max_gap behind_filler c }
-{
-    let gap = c.gap as u32;
-    if behind_filler {
-        return gap == Queue::MAX_GAP;
-    }
-    // Only a filler with gap 0 has this id.
-    (c.id as u32) != gap + (Queue::FILLER as u32)
-}
-
-// The sum of all ids and gaps, those past the last too: it is that of the cells in use where the others are zero.
-fn total(q: Queue) -> u32
-    ensures { result ≡ sum_of q.cells }
-{
-    let mut sum: u32 = 0;
-    let mut i: usize = 0;
-    while i < Queue::CELLS {
-        let c = q.cells[i];
-        sum = sum + (c.id as u32) + (c.gap as u32);
-        i = i + 1;
-    }
-    sum
 }
 
 // WALKING
@@ -315,104 +297,63 @@ struct Walk {
     at: u32,
 }
 
-fn pass(w: Walk, c: Cell) -> Walk
-    requires { (w.next < cell_count) × (w.at ≤ max_gap * cell_count) }
-    ensures { result ≡ pass_of w c }
-{
-    let at = w.at + (c.gap as u32);
-    if c.id == Queue::FILLER {
-        return Walk {
-            next: w.next + 1,
-            start: w.start,
-            last: w.last,
-            at: at,
-        };
-    }
-    Walk {
-        next: w.next + 1,
-        start: w.next + 1,
-        last: at,
-        at: at,
-    }
-}
-
-// The walk past every cell that is at most d away.
-fn passed(q: Queue, d: u32) -> Walk
-    requires { q.len ≤ cell_count }
-    ensures { Passed q d result }
-{
-    let n = q.len;
-    let mut w = Walk {
+impl Walk {
+    const START: Walk = Walk {
         next: 0,
         start: 0,
         last: 0,
         at: 0,
     };
-    while w.next < n {
-        let i = w.next;
-        let c = q.cells[i];
-        if d < w.at + (c.gap as u32) {
-            return w;
+
+    // The walk past every cell of a row that is at most d away.
+    fn within(row: &[Cell], d: u32) -> Walk
+        requires { length row.now ≤ cell_count }
+        ensures { Passed row.now d result }
+    {
+        let mut w = Walk::START;
+        for c in row {
+            if d < w.at + u32::from(c.gap) {
+                return w;
+            }
+            w = w.past(*c);
         }
-        w = pass(w, c);
+        w
     }
-    w
+
+    fn past(self, c: Cell) -> Walk
+        requires { (self.next < cell_count) × (self.at ≤ max_gap * cell_count) }
+        ensures { result ≡ pass_of self c }
+    {
+        let next = self.next + 1;
+        let at = self.at + u32::from(c.gap);
+        if c.is_filler() {
+            Walk {
+                next,
+                start: self.start,
+                last: self.last,
+                at,
+            }
+        } else {
+            Walk {
+                next,
+                start: next,
+                last: at,
+                at,
+            }
+        }
+    }
 }
 
 // Where an event stands: the place behind the event before it, that one's distance, the place behind it, and its own distance.
 #[derive(Clone, Copy)]
 struct Found {
-    found: bool,
     start: usize,
     last: u32,
     behind: usize,
     at: u32,
 }
 
-fn nowhere() -> Found
-    ensures { result ≡ nowhere_found }
-{
-    Found {
-        found: false,
-        start: 0,
-        last: 0,
-        behind: 0,
-        at: 0,
-    }
-}
-
-fn find(q: Queue, id: u8) -> Found
-    requires { q.len ≤ cell_count }
-    ensures { Sought q id result }
-{
-    if id == Queue::FILLER {
-        return nowhere();
-    }
-    let n = q.len;
-    let mut w = Walk {
-        next: 0,
-        start: 0,
-        last: 0,
-        at: 0,
-    };
-    while w.next < n {
-        let i = w.next;
-        let c = q.cells[i];
-        if c.id == id {
-            return Found {
-                found: true,
-                start: w.start,
-                last: w.last,
-                behind: i + 1,
-                at: w.at + (c.gap as u32),
-            };
-        }
-        w = pass(w, c);
-    }
-    nowhere()
-}
-
-// The next event from a place on: its id, or a filler's where there is none, its distance, and the place behind it.
+// The next event from a place on: its id, its distance, and the place behind it.
 #[derive(Clone, Copy)]
 struct Next {
     id: u8,
@@ -420,219 +361,177 @@ struct Next {
     behind: usize,
 }
 
-fn next_event(q: Queue, from: usize, at: u32) -> Next
-    requires { (q.len ≤ cell_count) × (from ≤ q.len) × (at ≤ max_gap * cell_count) }
-    ensures { result ≡ next_of at from (drop from (cells_of q)) }
-{
-    let n = q.len;
-    let mut t = at;
-    let mut i = from;
-    while i < n {
-        let c = q.cells[i];
-        t = t + (c.gap as u32);
-        i = i + 1;
-        if c.id != Queue::FILLER {
-            return Next {
-                id: c.id,
-                at: t,
-                behind: i,
-            };
+impl Queue {
+    fn find(&self, id: u8) -> Option<Found>
+        ensures { Sought (cells_of self.now) id result }
+    {
+        if id == Queue::FILLER {
+            return None;
+        }
+        let mut w = Walk::START;
+        for c in self.row() {
+            let at = w.at + u32::from(c.gap);
+            if c.id == id {
+                return Some(Found {
+                    start: w.start,
+                    last: w.last,
+                    behind: w.next + 1,
+                    at,
+                });
+            }
+            w = w.past(*c);
+        }
+        None
+    }
+
+    // The cells from a place on are counted from t.
+    fn next_event(&self, from: usize, t: u32) -> Option<Next>
+        requires { (from ≤ length (cells_of self.now)) × (t ≤ max_gap * cell_count) }
+        ensures { result ≡ next_of t from (drop from (cells_of self.now)) }
+    {
+        let mut at = t;
+        let mut behind = from;
+        for c in &self.row()[from..] {
+            at += u32::from(c.gap);
+            behind += 1;
+            if !c.is_filler() {
+                return Some(Next {
+                    id: c.id,
+                    at,
+                    behind,
+                });
+            }
+        }
+        None
+    }
+
+    // What is left of those cells when they are counted from u.
+    fn regroup(&self, from: usize, t: u32, u: u32) -> Rest
+        requires { (from ≤ length (cells_of self.now)) × (t ≤ max_gap * cell_count) }
+        ensures { Regrouped (cells_of self.now) from t u result }
+    {
+        match self.next_event(from, t) {
+            Some(n) => Rest {
+                then: Chain::of(n.at.saturating_sub(u), n.id),
+                behind: n.behind,
+            },
+            None => Rest {
+                then: Chain::NONE,
+                behind: self.row().len(),
+            },
         }
     }
-    Next {
-        id: Queue::FILLER,
-        at: t,
-        behind: i,
-    }
-}
-
-// The distance of the last cell.
-fn end_of(q: Queue) -> u32
-    requires { q.len ≤ cell_count }
-    ensures { result ≡ gaps_of (cells_of q) }
-{
-    let n = q.len;
-    let mut at: u32 = 0;
-    let mut i: usize = 0;
-    while i < n {
-        let c = q.cells[i];
-        at = at + (c.gap as u32);
-        i = i + 1;
-    }
-    at
 }
 
 // MOVING: the cells before a change stay, and each cell behind it is stored once
 
-// The cells of one gap: how many they are, and the gap of the first. Each other has the largest gap.
+// The cells of one event: its id, how many they are, and the gap of the first. Each other has the largest gap.
 #[derive(Clone, Copy)]
 struct Chain {
+    id: u8,
     cells: usize,
     gap: u16,
 }
 
-fn chain_of(gap: u32) -> Chain
-    ensures { result ≡ chain_for max_gap gap }
-{
-    let k = fillers(gap);
-    Chain {
-        cells: (k as usize) + 1,
-        gap: (gap - k * Queue::MAX_GAP) as u16,
+// What comes behind a change: the cells of the next event, none where there is no event, and the place of the cells behind those.
+#[derive(Clone, Copy)]
+struct Rest {
+    then: Chain,
+    behind: usize,
+}
+
+impl Chain {
+    const NONE: Chain = Chain {
+        id: 0,
+        cells: 0,
+        gap: 0,
+    };
+
+    fn of(gap: u32, id: u8) -> Chain
+        ensures { result ≡ chain_for max_gap gap id }
+    {
+        let fillers = gap.saturating_sub(1) / Queue::MAX_GAP;
+        Chain {
+            id,
+            cells: (fillers as usize) + 1,
+            gap: (gap - fillers * Queue::MAX_GAP) as u16,
+        }
     }
 }
 
-fn fillers(gap: u32) -> u32
-    ensures { result ≡ fillers_for max_gap gap }
-{
-    if gap == 0 {
-        return 0;
+impl Queue {
+    // In place of the cells from a place up to those behind the rest: a chain, and the rest's.
+    fn splice(&mut self, start: usize, own: Chain, rest: Rest)
+        requires within { rest.behind ≤ self.old.len }
+        requires short { self.old.len ≤ cell_count }
+        requires room { start + own.cells + rest.then.cells + (self.old.len - rest.behind) ≤ cell_count }
+        ensures { self.new ≡ spliced start own rest self.old }
+    {
+        let at = start + own.cells;
+        let to = at + rest.then.cells;
+        let len = to + (self.len - rest.behind);
+        self.cells.copy_within(rest.behind..self.len, to);
+        self.len = len;
+        self.link(at, rest.then);
+        self.link(start, own);
     }
-    (gap - 1) / Queue::MAX_GAP
-}
 
-// Those of the next event, counted from u; none where there is no event.
-fn chain_to(n: Next, u: u32) -> Chain
-    requires { eqb n.id filler ≡ false → u ≤ n.at }
-    ensures { result ≡ chain_to max_gap u n }
-{
-    if n.id == Queue::FILLER {
-        return Chain { cells: 0, gap: 0 };
+    // The cells past the last, cleared up to a place.
+    fn clear(&mut self, end: usize)
+        requires { (self.old.len ≤ end) × (end ≤ cell_count) }
+        ensures { self.new ≡ queue_with (sets self.old.cells self.old.len (replicate (end - self.old.len) (cell 0 0))) self.old.len }
+    {
+        self.cells[self.len..end].fill(Cell::ZERO);
     }
-    chain_of(n.at - u)
-}
 
-// A cell of a chain, with so many behind it: the last is the event.
-fn link(behind: usize, id: u8, gap: u16) -> Cell
-    ensures { result ≡ link_of behind id gap }
-{
-    if behind == 0 {
-        return Cell { id: id, gap: gap };
+    // The cells of a chain, stored from a place on: the last is the event, and each other a filler.
+    fn link(&mut self, at: usize, chain: Chain)
+        requires { at + chain.cells ≤ cell_count }
+        ensures { self.new ≡ queue_with (sets self.old.cells at (links_of max_gap chain)) self.old.len }
+    {
+        let end = at + chain.cells;
+        let mut gap = chain.gap;
+        for i in at..end {
+            let id = if i + 1 == end {
+                chain.id
+            } else {
+                Queue::FILLER
+            };
+            self.cells[i] = Cell { id, gap };
+            gap = Queue::FULL;
+        }
     }
-    Cell {
-        id: Queue::FILLER,
-        gap: gap,
-    }
-}
-
-// The cells of a chain, stored from a place on.
-fn linked(q: Queue, at: usize, chain: Chain, id: u8) -> Queue
-    requires { at + chain.cells ≤ cell_count }
-    ensures { result ≡ queue_with (sets q.cells at (links_of max_gap chain id)) q.len }
-{
-    let mut next = q;
-    let mut p = at;
-    let mut k = chain.cells;
-    let mut gap = chain.gap;
-    while 0 < k {
-        k = k - 1;
-        let c = link(k, id, gap);
-        next.cells[p] = c;
-        gap = Queue::FULL;
-        p = p + 1;
-    }
-    next
-}
-
-// The cells from a place on, moved to another: from the last on where they go up, from the first on where they go down.
-fn moved(q: Queue, from: usize, to: usize) -> Queue
-    requires { (from ≤ q.len) × (q.len ≤ cell_count) × (to + (q.len - from) ≤ cell_count) }
-    ensures { result ≡ moved_to from to q }
-{
-    if from < to {
-        return up(q, from, to);
-    }
-    down(q, from, to)
-}
-
-fn up(q: Queue, from: usize, to: usize) -> Queue
-    requires { (from ≤ q.len) × (from ≤ to) × (to + (q.len - from) ≤ cell_count) }
-    ensures { result ≡ moved_to from to q }
-{
-    let by = to - from;
-    let mut next = q;
-    let mut i = q.len;
-    while from < i {
-        i = i - 1;
-        let c = next.cells[i];
-        next.cells[i + by] = c;
-    }
-    next.len = q.len + by;
-    next
-}
-
-fn down(q: Queue, from: usize, to: usize) -> Queue
-    requires { (to ≤ from) × (from ≤ q.len) × (q.len ≤ cell_count) }
-    ensures { result ≡ moved_to from to q }
-{
-    let mut next = q;
-    let mut p = to;
-    let mut i = from;
-    while i < q.len {
-        let c = next.cells[i];
-        next.cells[p] = c;
-        p = p + 1;
-        i = i + 1;
-    }
-    next.len = p;
-    next
-}
-
-// The cells past the last, cleared up to a place.
-fn cleared(q: Queue, to: usize) -> Queue
-    requires { (q.len ≤ to) × (to ≤ cell_count) }
-    ensures { result ≡ queue_with (sets q.cells q.len (replicate (to - q.len) (cell 0 0))) q.len }
-{
-    let mut next = q;
-    let mut i = q.len;
-    while i < to {
-        next.cells[i] = Cell { id: 0, gap: 0 };
-        i = i + 1;
-    }
-    next
 }
 
 // PUSHING BACK
 
-// The queue is full, and its first gap cannot grow.
-fn no_room_before(q: Queue) -> bool
-    ensures { result ≡ both (eqb q.len cell_count) (eqb (first_cell q).gap max_gap) }
-{
-    if q.len != Queue::CELLS {
-        return false;
+impl Queue {
+    // The queue is full, and its first gap cannot grow.
+    fn is_stuck(&self) -> bool
+        ensures { result ≡ both (eqb self.now.len cell_count) (eqb (first_cell self.now).gap max_gap) }
+    {
+        self.len == Queue::CELLS && self.cells[0].gap == Queue::FULL
     }
-    let c = q.cells[0];
-    (c.gap as u32) == Queue::MAX_GAP
-}
 
-// A filler of one tick before all other cells, which move one place up.
-fn behind_filler(q: Queue) -> Queue
-    requires { (q ≡ queue_of (cells_of q)) × (q.len < cell_count) }
-    ensures { result ≡ queue_of (cell filler 1 ∷ cells_of q) }
-{
-    let mut next = up(q, 0, 1);
-    next.cells[0] = Cell {
-        id: Queue::FILLER,
-        gap: 1,
-    };
-    next
-}
-
-// The first gap grows by 1, or a filler comes before a gap that is full.
-fn pushed(q: Queue) -> Queue
-    requires { (q ≡ queue_of (cells_of q)) × (q.len ≤ cell_count) × (both (eqb q.len cell_count) (eqb (first_cell q).gap max_gap) ≡ false) }
-    ensures { result ≡ queue_of (push_cells max_gap (cells_of q)) }
-{
-    if q.len == 0 {
-        return q;
+    // The first gap grows by 1, or a filler of one tick comes before a gap that is full.
+    fn later(&mut self)
+        requires made { self.old ≡ queue_of (cells_of self.old) }
+        requires short { self.old.len ≤ cell_count }
+        requires room { both (eqb self.old.len cell_count) (eqb (first_cell self.old).gap max_gap) ≡ false }
+        ensures { self.new ≡ queue_of (push_cells max_gap (cells_of self.old)) }
+    {
+        if self.len == 0 {
+            return;
+        }
+        if self.cells[0].gap == Queue::FULL {
+            self.cells.copy_within(0..self.len, 1);
+            self.len += 1;
+            self.cells[0] = Cell {
+                id: Queue::FILLER,
+                gap: 1,
+            };
+        } else {
+            self.cells[0].gap += 1;
+        }
     }
-    let c = q.cells[0];
-    if (c.gap as u32) == Queue::MAX_GAP {
-        return behind_filler(q);
-    }
-    let mut next = q;
-    next.cells[0] = Cell {
-        id: c.id,
-        gap: c.gap + 1,
-    };
-    next
 }

@@ -1,14 +1,12 @@
 // The total steps on a row, for a scheduler that has checked its state once. They are no calls of document 01: they do not test soundness, have no
 // `requires`, and have an outcome for every row. Where a call on a sound queue would not be refused, the step is the call (proofs/Same.antt).
-ghost use Rattle.std.specs.Prelude.{◌≡◌, false, ◌≤◌, leb, drop};
-ghost use Rattle.small.specs.Small.{pick};
-ghost use Rattle.queue.specs.Limits.{max_gap, cell_count};
-ghost use Rattle.queue.specs.Row.{cells_of};
+ghost use Rattle.std.specs.Prelude.{◌≡◌};
+ghost use Rattle.queue.specs.Limits.{max_gap};
 ghost use Rattle.queue.specs.Calls.{changed_by};
 ghost use Rattle.queue.specs.Steps.{first_cell, due_step, empty_step, falls_step, nearer_step, rest_step, tick_step, place_step, again_step};
-ghost use Rattle.queue.specs.Moves.{fullb, plainb};
+ghost use Rattle.queue.specs.Moves.{fullb, plainb, Placed};
 
-use super::{Cell, Distance, Queue, chain_of, chain_to, linked, moved, next_event, passed};
+use super::{Cell, Chain, Distance, Queue, Walk};
 use refusal::Reason;
 
 impl Queue {
@@ -49,7 +47,13 @@ impl Queue {
     pub fn without_first(&mut self)
         ensures { self.new ≡ rest_step self.old }
     {
-        *self = shifted(*self);
+        if self.len == 0 || Queue::CELLS < self.len {
+            return;
+        }
+        let last = self.len - 1;
+        self.cells.copy_within(1..self.len, 0);
+        self.cells[last] = Cell::ZERO;
+        self.len = last;
     }
 
     // The first gap falls by 1, and a filler that reaches 0 goes.
@@ -59,14 +63,12 @@ impl Queue {
         if self.len == 0 {
             return;
         }
-        let c = self.cells[0];
-        if c.id != Queue::FILLER {
-            return self.nearer();
+        let first = self.cells[0];
+        if first.is_filler() && first.gap == 1 {
+            self.without_first();
+        } else {
+            self.nearer();
         }
-        if c.gap != 1 {
-            return self.nearer();
-        }
-        self.without_first();
     }
 
     // An event is put in, with no test but that there is room.
@@ -76,20 +78,15 @@ impl Queue {
         if Queue::CELLS < self.len {
             return Err(Reason::Unsound);
         }
-        let q = *self;
         let d = delay.0;
-        let w = passed(q, d);
-        let n = next_event(q, w.next, w.at);
-        let own = chain_of(d - w.last);
-        let then = chain_to(n, d);
-        let at = w.start + own.cells;
-        let to = at + then.cells;
-        if Queue::CELLS < to + (q.len - n.behind) {
+        let w = Walk::within(self.row(), d);
+        let own = Chain::of(d - w.last, id);
+        let rest = self.regroup(w.next, w.at, d);
+        let len = w.start + own.cells + rest.then.cells + (self.len - rest.behind);
+        if Queue::CELLS < len {
             return Err(Reason::NoRoom);
         }
-        let rest = moved(q, n.behind, to);
-        let more = linked(rest, at, then, n.id);
-        *self = linked(more, w.start, own, id);
+        self.splice(w.start, own, rest);
         Ok(())
     }
 
@@ -98,122 +95,73 @@ impl Queue {
     pub fn again(&mut self, delay: Distance)
         ensures { self.new ≡ again_step max_gap self.old delay.0 }
     {
-        *self = again(*self, delay);
-    }
-}
-
-// The first cell goes, every other in use moves one place down, and the last one's place is cleared.
-fn shifted(q: Queue) -> Queue
-    ensures { result ≡ rest_step q }
-{
-    let n = row_end(q);
-    if n == 0 {
-        return q;
-    }
-    let mut next = q;
-    let mut i: usize = 1;
-    while i < n {
-        let c = next.cells[i];
-        next.cells[i - 1] = c;
-        i = i + 1;
-    }
-    next.cells[n - 1] = Cell { id: 0, gap: 0 };
-    next.len = n - 1;
-    next
-}
-
-// The first cell goes, and its event is put in again: each cell that it passes moves one place down, and the next gap falls. Where its new place is not plain
-// it is taken out and put in.
-fn again(q: Queue, delay: Distance) -> Queue
-    ensures { result ≡ again_step max_gap q delay.0 }
-{
-    let n = row_end(q);
-    let d = delay.0;
-    let f = q.cells[0];
-    let mut next = q;
-    let mut filler = n == 0;
-    let mut at: u32 = 0;
-    let mut i: usize = 1;
-    while i < n {
-        let c = next.cells[i];
-        let to = at + (c.gap as u32);
-        if d < to {
-            break;
+        let id = self.cells[0].id;
+        match self.plain_place(delay.0) {
+            Some(p) => {
+                self.cells.copy_within(1..p.passed + 1, 0);
+                if p.passed + 1 < self.len {
+                    self.cells[p.passed + 1].gap -= p.gap;
+                }
+                self.cells[p.passed] = Cell { id, gap: p.gap };
+            }
+            None => {
+                self.without_first();
+                // Where there is no room the event is gone, as `again_step` has it.
+                let _ = self.place(id, delay);
+            }
         }
-        next.cells[i - 1] = c;
-        filler = c.id == Queue::FILLER;
-        at = to;
-        i = i + 1;
     }
-    let gap = d - at;
-    if !plain(q, i, gap, filler) {
-        let mut p = shifted(q);
-        let _ = p.place(f.id, delay);
-        return p;
+
+    // Where the first event comes to stand when it is put in again d away, if that place is plain: it is one cell there, and changes no other but the next gap.
+    fn plain_place(&self, d: u32) -> Option<Place>
+        ensures { Placed self.now d result }
+    {
+        if self.len == 0 || Queue::CELLS < self.len {
+            return None;
+        }
+        let rest = &self.row()[1..];
+        let w = Walk::within(rest, d);
+        let gap = d - w.at;
+        if w.start < w.next || !is_plain(gap, &rest[w.next..]) {
+            return None;
+        }
+        Some(Place {
+            passed: w.next,
+            gap: gap as u16,
+        })
     }
-    if i < n {
-        let c = next.cells[i];
-        next.cells[i] = Cell {
-            id: c.id,
-            gap: c.gap - (gap as u16),
-        };
-    }
-    next.cells[i - 1] = Cell {
-        id: f.id,
-        gap: gap as u16,
-    };
-    next
 }
 
 // PUTTING IN AGAIN
 
-// How many cells are in use; 0 where the length is none of a row.
-fn row_end(q: Queue) -> usize
-    ensures { result ≡ pick (leb q.len cell_count) q.len 0 }
-{
-    let n = q.len;
-    if Queue::CELLS < n {
-        return 0;
-    }
-    n
+// How many cells an event passes, and its gap there.
+#[derive(Clone, Copy)]
+struct Place {
+    passed: usize,
+    gap: u16,
 }
 
-// Whether an event that comes this far behind the cell before place i is one cell, and changes no cell from there on but the next gap. `filler`: that cell
-// is one.
-fn plain(q: Queue, i: usize, gap: u32, filler: bool) -> bool
-    requires { «filler» ≡ false → q.len ≤ cell_count }
-    ensures { result ≡ pick «filler» false (plainb max_gap gap (drop i (cells_of q))) }
+// Whether an event that comes this far before some cells, and behind no filler, is one cell, and changes none of them but the first gap.
+fn is_plain(gap: u32, cells: &[Cell]) -> bool
+    ensures { result ≡ plainb max_gap gap cells.now }
 {
-    if filler {
-        return false;
+    match cells.split_first() {
+        None => gap <= Queue::MAX_GAP,
+        Some((c, more)) => !c.is_filler() || is_full(more),
     }
-    let n = q.len;
-    if n <= i {
-        return gap <= Queue::MAX_GAP;
-    }
-    let c = q.cells[i];
-    if c.id != Queue::FILLER {
-        return true;
-    }
-    full(q, i + 1)
 }
 
-// Whether each cell from a place on, up to an event, has the largest gap.
-fn full(q: Queue, from: usize) -> bool
-    requires { q.len ≤ cell_count }
-    ensures { result ≡ fullb max_gap (drop from (cells_of q)) }
+// Whether each cell, up to an event, has the largest gap.
+fn is_full(cells: &[Cell]) -> bool
+    ensures { result ≡ fullb max_gap cells.now }
 {
-    let n = q.len;
-    let mut i = from;
-    while i < n {
-        let c = q.cells[i];
+    for c in cells {
         if c.gap != Queue::FULL {
             return false;
         }
-        if c.id != Queue::FILLER {
+        if !c.is_filler() {
             return true;
         }
-        i = i + 1;
     }
     false
 }

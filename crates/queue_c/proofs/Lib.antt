@@ -1,2 +1,2 @@
--- WHAT IS PROMISED OF THE CALLS
+-- PROMISED: what docs/ASSURANCE.md names
 pub mod OneOutcome

@@ -1,150 +1,95 @@
--- `queue::steps::placed` meets its contract: by `Passed` and the next event the row is the cells up to the event before, the new event's, and those behind it
--- counted from it; the code counts them first, and then stores the last first, so that each run is stored before the one that is there.
-use mathlib.Core.Path.{◌≡◌, sym, ap, ◌∙◌}
-use mathlib.Core.Bool.{false}
-use mathlib.Core.List.{List, ◌++◌}
-use Prim.Native.Nat.{◌+◌, ◌-◌, ◌≤◌, ◌<◌}
-use native.Mathlib.Omega.{arith}
+-- `queue::Queue::place` meets its contract: by `Passed` and `Regrouped` the row is the cells up to the event before, the new event's, and those behind it counted
+-- from it; the code counts them first, and then puts them there (`spliced_row`).
+use Rattle.std.proofs.Common.{◌≡◌, ap, ◌∙◌, ◌++◌, ◌+◌, ◌-◌, ◌≤◌, take, length, arith}
 use borrow.Author.Tests.{lt-ltb, le-ltb}
-use lib.Dec.{eqb}
-use lib.ListN.{length, take, drop, length-append, length-drop}
-use lib.Seq.{length-take-le, sets}
-use Rattle.queue.specs.Limits.{max_gap, cell_count, filler}
+use Rattle.queue.specs.Limits.{max_gap, cell_count}
 use Rattle.queue.specs.Row.{cells_of, fillers_for}
 use Rattle.queue.specs.Calls.{accepted_with}
 use Rattle.queue.specs.Steps.{place_cells, place_step}
-use Rattle.queue.specs.Moves.{chain_for, links_of, behind_of, queue_with, moved_to}
-use Rattle.queue.specs.declared.Cell.{Cell}
+use Rattle.queue.specs.Moves.{chain_for, Passed}
 use Rattle.queue.specs.declared.Chain.{Chain}
 use Rattle.queue.proofs.Cells.{cells_length}
-use Rattle.queue.proofs.Moving.{sets_before, sets_row, links_length, chain_cells, to_cells}
-use Rattle.queue.proofs.Placing.{Following, following}
+use Rattle.queue.proofs.Moving.{chain_cells, pieces, spliced_length, spliced_row}
 use Rattle.queue.proofs.Queue.place.Goals as goal
-use Rattle.queue.proofs.Queue.place.Goals.{After-chain_to-then, After-linked, After-next_event-n, Else-self-gt-CELLS}
+use Rattle.queue.proofs.Queue.place.Goals.{After-regroup-rest, After-within-w, Else-self-gt-CELLS}
 
 full : (c : Else-self-gt-CELLS) → length c.args.self.now.cells ≡ cell_count
 full c = omega arith
 
-next : (c : After-next_event-n) → Following c.args.self.now c.passed-w.result.at c.passed-w.result.next c.next_event-n.result
-next c =
-    let w = c.passed-w.result in
-    following c.args.self.now (full (goal.at.After-next_event-n c).Else-self-gt-CELLS) c.if-self-gt-CELLS.false w.at w.next c.passed-w.ensures.walked.in_row c.next_event-n.result
-    c.next_event-n.ensures
+in_row : (c : After-within-w) → length (cells_of c.args.self.now) ≡ c.args.self.now.len
+in_row c = cells_length c.args.self.now (full (goal.at.After-within-w c).Else-self-gt-CELLS) c.if-self-gt-CELLS.false
 
--- it does not stand before the new event
-beyond : (c : After-next_event-n) → eqb c.next_event-n.result.id filler ≡ false → c.args.delay.0 ≤ c.next_event-n.result.at
-beyond c = (next c).beyond c.args.delay.0 c.passed-w.ensures.beyond
+-- the walk is one over the cells in use
+walk : (c : After-within-w) → Passed (cells_of c.args.self.now) c.args.delay.0 c.within-w.result
+walk c = rw c.row.ensures.cells at c.within-w.ensures
 
--- the row: up to the new event, its cells, those of the next, and what stands behind
-abbrev head : (c : After-chain_to-then) → List Cell
-head c = take c.passed-w.result.start (cells_of c.args.self.now)
-
-abbrev own : (c : After-chain_to-then) → List Cell
-own c = links_of max_gap c.chain_of-own.result c.args.id
-
-abbrev then : (c : After-chain_to-then) → List Cell
-then c = links_of max_gap c.chain_to-then.result c.next_event-n.result.id
-
-abbrev tail : (c : After-chain_to-then) → List Cell
-tail c = drop c.next_event-n.result.behind (cells_of c.args.self.now)
-
-row : (c : After-chain_to-then) → place_cells max_gap c.args.id c.args.delay.0 (cells_of c.args.self.now) ≡ head c ++ (own c ++ (then c ++ tail c))
-unfolding behind_of
-row c =
-    c.passed-w.ensures.row max_gap c.args.id
-    ∙ rw ((next (goal.at.After-chain_to-then c).After-next_event-n).tail max_gap c.args.delay.0, c.chain_to-then.ensures, c.chain_of-own.ensures, chain_cells max_gap (c.args.delay.0 - c.passed-w.result.last) c.args.id)
-
--- its cells are counted
-row_length : (c : After-chain_to-then) → length (place_cells max_gap c.args.id c.args.delay.0 (cells_of c.args.self.now))
-    ≡ c.passed-w.result.start + c.chain_of-own.result.cells + c.chain_to-then.result.cells + (c.args.self.now.len - c.next_event-n.result.behind)
-row_length c =
-    let w = c.passed-w.ensures.walked in
-    let l = cells_length c.args.self.now (full (goal.at.After-chain_to-then c).Else-self-gt-CELLS) c.if-self-gt-CELLS.false in
-    let o = c.chain_of-own.result in
-    let t = c.chain_to-then.result in
-    let h : length (head c) ≡ c.passed-w.result.start = length-take-le c.passed-w.result.start (cells_of c.args.self.now) (omega (arith, w.start_by, w.in_row)) in
-    ap length (row c)
-    ∙ rw (
-      length-append (head c) (own c ++ (then c ++ tail c)),
-      h,
-      length-append (own c) (then c ++ tail c),
-      length-append (then c) (tail c),
-      links_length max_gap o.cells c.args.id o.gap,
-      links_length max_gap t.cells c.next_event-n.result.id t.gap,
-      length-drop,
-      l,
-    ) (omega arith)
-
--- and their numbers are small
-small : (c : After-chain_to-then)
-    → (c.passed-w.result.start ≤ cell_count) × (c.chain_of-own.result.cells ≤ 65538) × (c.chain_to-then.result.cells ≤ 65538)
+-- the numbers that are added up are small
+small : (c : After-regroup-rest) → let q = c.args.self.now in
+    (c.within-w.result.start ≤ q.len) × (c.regroup-rest.result.behind ≤ q.len) × (c.of-own.result.cells ≤ 65538) × (c.regroup-rest.result.then.cells ≤ 65538)
 unfolding chain_for
 small c =
-    let w = c.passed-w.ensures.walked in
-    let o : c.chain_of-own.result.cells ≡ fillers_for max_gap (c.args.delay.0 - c.passed-w.result.last) + 1 = ap (λ (x : Chain). x.cells) c.chain_of-own.ensures in
-    let h : c.chain_to-then.result.cells ≤ fillers_for max_gap (c.next_event-n.result.at - c.args.delay.0) + 1 = rw c.chain_to-then.ensures (to_cells max_gap c.args.delay.0 c.next_event-n.result) in
-    (omega (arith, w.start_by, w.in_row, c.if-self-gt-CELLS.false), omega arith, omega (arith, c.next_event-n.type_inv.1.1.1.0.1))
+    let w = (walk (goal.at.After-regroup-rest c).After-within-w).walked in
+    let l = in_row (goal.at.After-regroup-rest c).After-within-w in
+    let o : c.of-own.result.cells ≡ fillers_for max_gap (c.args.delay.0 - c.within-w.result.last) + 1 = ap (λ (x : Chain). x.cells) c.of-own.ensures in
+    (omega (arith, w.start_by, w.in_row), omega (arith, c.regroup-rest.ensures.in_row), omega arith, c.regroup-rest.ensures.few)
 
-made : (c : After-linked) → let r = place_cells max_gap c.args.id c.args.delay.0 (cells_of c.args.self.now) in c.linked.result ≡ queue_with (r ++ drop (length r) c.args.self.now.cells) (length r)
-unfolding moved_to cells_of
-made c =
-    let w = c.passed-w.ensures.walked in
-    let i = c.passed-w.result.start in
-    let o = c.chain_of-own.result in
-    let h = c.chain_to-then.result in
-    let lo : length (own (goal.at.After-linked c).After-chain_to-then) ≡ o.cells = links_length max_gap o.cells c.args.id o.gap in
-    let lh : length (then (goal.at.After-linked c).After-chain_to-then) ≡ h.cells = links_length max_gap h.cells c.next_event-n.result.id h.gap in
-    let lt : length (tail (goal.at.After-linked c).After-chain_to-then) ≡ c.args.self.now.len - c.next_event-n.result.behind = rw (length-drop, cells_length c.args.self.now (full (goal.at.After-linked c).Else-self-gt-CELLS) c.if-self-gt-CELLS.false) in
-    let k : length (own (goal.at.After-linked c).After-chain_to-then ++ (then (goal.at.After-linked c).After-chain_to-then ++ tail (goal.at.After-linked c).After-chain_to-then)) ≡ o.cells + (h.cells + (c.args.self.now.len - c.next_event-n.result.behind)) = rw (length-append, length-append, lo, lh, lt) in
-    let s : sets (sets (sets c.args.self.now.cells (i + o.cells + h.cells) (tail (goal.at.After-linked c).After-chain_to-then)) (i + o.cells) (then (goal.at.After-linked c).After-chain_to-then)) i (own (goal.at.After-linked c).After-chain_to-then) ≡ sets c.args.self.now.cells i (own (goal.at.After-linked c).After-chain_to-then ++ (then (goal.at.After-linked c).After-chain_to-then ++ tail (goal.at.After-linked c).After-chain_to-then)) =
-    ap (λ (l : List Cell). sets l i (own (goal.at.After-linked c).After-chain_to-then)) (sets_before c.args.self.now.cells (i + o.cells) (i + o.cells + h.cells) (then (goal.at.After-linked c).After-chain_to-then) (tail (goal.at.After-linked c).After-chain_to-then) (omega arith))
-    ∙ sets_before c.args.self.now.cells i (i + o.cells) (own (goal.at.After-linked c).After-chain_to-then) (then (goal.at.After-linked c).After-chain_to-then ++ tail (goal.at.After-linked c).After-chain_to-then) (omega arith) in
-    let e = sets_row c.args.self.now.len i c.args.self.now.cells (own (goal.at.After-linked c).After-chain_to-then ++ (then (goal.at.After-linked c).After-chain_to-then ++ tail (goal.at.After-linked c).After-chain_to-then)) (omega (arith, w.start_by, w.in_row)) (omega (arith, full (goal.at.After-linked c).Else-self-gt-CELLS, c.if-to-q-gt-CELLS.false)) in
-    let r = place_cells max_gap c.args.id c.args.delay.0 (cells_of c.args.self.now) in
-    let cells : sets c.linked-more.result.cells i (own (goal.at.After-linked c).After-chain_to-then) ≡ r ++ drop (length r) c.args.self.now.cells =
-    rw (c.linked-more.ensures, c.moved-rest.ensures) (s ∙ e ∙ ap (λ (l : List Cell). l ++ drop (length l) c.args.self.now.cells) (sym (row (goal.at.After-linked c).After-chain_to-then))) in
-    let len : c.linked-more.result.len ≡ length r = rw (c.linked-more.ensures, c.moved-rest.ensures) (sym (row_length (goal.at.After-linked c).After-chain_to-then)) in
-    c.linked.ensures ∙ (λ j. record { cells = cells j; len = len j })
+-- the row: up to the new event, its cells, those of the next, and what stands behind
+row : (c : After-regroup-rest) → let q = c.args.self.now in let w = c.within-w.result in let s = small c in
+    place_cells max_gap c.args.id c.args.delay.0 (cells_of q)
+    ≡ take w.start (cells_of q) ++ pieces q (full (goal.at.After-regroup-rest c).Else-self-gt-CELLS) c.if-self-gt-CELLS.false w.start c.of-own.result c.regroup-rest.result s.0 s.1
+row c =
+    (walk (goal.at.After-regroup-rest c).After-within-w).row max_gap c.args.id
+    ∙ rw (c.regroup-rest.ensures.row, c.of-own.ensures, chain_cells max_gap (c.args.delay.0 - c.within-w.result.last) c.args.id)
+
+row_length : (c : After-regroup-rest) → let q = c.args.self.now in let w = c.within-w.result in let rest = c.regroup-rest.result in
+    length (place_cells max_gap c.args.id c.args.delay.0 (cells_of q)) ≡ w.start + c.of-own.result.cells + rest.then.cells + (q.len - rest.behind)
+row_length c =
+    let s = small c in
+    spliced_length c.args.self.now (full (goal.at.After-regroup-rest c).Else-self-gt-CELLS) c.if-self-gt-CELLS.false c.within-w.result.start c.of-own.result c.regroup-rest.result s.0 s.1 _ (row c)
 
 pub returns-then-self-gt-CELLS : goal.returns-then-self-gt-CELLS
 unfolding place_step
 returns-then-self-gt-CELLS c =
     rw (lt-ltb cell_count c.args.self.now.len c.if-self-gt-CELLS.true)
 
-pub chain_to-then-requires : goal.chain_to-then-requires
-chain_to-then-requires c =
-    beyond (goal.at.chain_to-then-requires c).After-next_event-n
+pub regroup-rest-requires : goal.regroup-rest-requires
+regroup-rest-requires c =
+    let w = (walk (goal.at.regroup-rest-requires c).After-within-w).walked in
+    let l = in_row (goal.at.regroup-rest-requires c).After-within-w in
+    (w.in_row, omega (arith, w.small, w.in_row))
 
-pub overflow_add-at : goal.overflow_add-at
-overflow_add-at c =
-    let b = small (goal.at.overflow_add-at c).After-chain_to-then in omega (arith, b.0, b.1)
+pub overflow_add-len : goal.overflow_add-len
+overflow_add-len c =
+    let s = small (goal.at.overflow_add-len c).After-regroup-rest in omega (arith, s.0, s.2)
 
-pub overflow_add-to : goal.overflow_add-to
-overflow_add-to c =
-    let b = small (goal.at.overflow_add-to c).After-chain_to-then in omega (arith, b.0, b.1, b.2)
+pub overflow_add-len-2 : goal.overflow_add-len-2
+overflow_add-len-2 c =
+    let s = small (goal.at.overflow_add-len-2 c).After-regroup-rest in omega (arith, s.0, s.2, s.3)
 
-pub overflow_sub-q : goal.overflow_sub-q
-overflow_sub-q c =
-    (next (goal.at.overflow_sub-q c).After-next_event-n).within
+pub overflow_sub-len : goal.overflow_sub-len
+overflow_sub-len c =
+    (small (goal.at.overflow_sub-len c).After-regroup-rest).1
 
-pub overflow_add-to-2 : goal.overflow_add-to-2
-overflow_add-to-2 c =
-    let b = small (goal.at.overflow_add-to-2 c).After-chain_to-then in
-    omega (arith, b.0, b.1, b.2, c.if-self-gt-CELLS.false)
+pub overflow_add-len-3 : goal.overflow_add-len-3
+overflow_add-len-3 c =
+    let s = small (goal.at.overflow_add-len-3 c).After-regroup-rest in omega (arith, s.0, s.2, s.3)
 
-pub returns-then-to-q-gt-CELLS : goal.returns-then-to-q-gt-CELLS
+pub splice-requires-clause-within : goal.splice-requires-clause-within
+splice-requires-clause-within c =
+    (small (goal.at.splice-requires-clause-within c).After-regroup-rest).1
+
+pub returns-then-len-gt-CELLS : goal.returns-then-len-gt-CELLS
 unfolding place_step
-returns-then-to-q-gt-CELLS c =
-    let l : cell_count < length (place_cells max_gap c.args.id c.args.delay.0 (cells_of c.args.self.now)) = rw (row_length (goal.at.returns-then-to-q-gt-CELLS c).After-chain_to-then) (omega (arith, c.if-to-q-gt-CELLS.true)) in
-    rw (le-ltb cell_count c.args.self.now.len c.if-self-gt-CELLS.false, lt-ltb cell_count (length (place_cells max_gap c.args.id c.args.delay.0 (cells_of c.args.self.now))) l)
-
-pub moved-rest-requires : goal.moved-rest-requires
-moved-rest-requires c =
-    ((next (goal.at.moved-rest-requires c).After-next_event-n).within, c.if-self-gt-CELLS.false, c.if-to-q-gt-CELLS.false)
+returns-then-len-gt-CELLS c =
+    let n = row_length (goal.at.returns-then-len-gt-CELLS c).After-regroup-rest in
+    rw (le-ltb cell_count c.args.self.now.len c.if-self-gt-CELLS.false, lt-ltb cell_count (length (place_cells max_gap c.args.id c.args.delay.0 (cells_of c.args.self.now))) (omega arith))
 
 pub returns : goal.returns
 unfolding place_step
 returns c =
-    let l : length (place_cells max_gap c.args.id c.args.delay.0 (cells_of c.args.self.now)) ≤ cell_count = rw (row_length (goal.at.returns c).After-chain_to-then) (omega (arith, c.if-to-q-gt-CELLS.false)) in
-    rw (le-ltb cell_count c.args.self.now.len c.if-self-gt-CELLS.false, le-ltb cell_count (length (place_cells max_gap c.args.id c.args.delay.0 (cells_of c.args.self.now))) l)
-    (ap accepted_with (made (goal.at.returns c).After-linked))
+    let q = c.args.self.now in
+    let t = (goal.at.returns c).After-regroup-rest in
+    let n = row_length t in
+    let s = small t in
+    rw (le-ltb cell_count q.len c.if-self-gt-CELLS.false, le-ltb cell_count (length (place_cells max_gap c.args.id c.args.delay.0 (cells_of q))) (omega arith))
+    (ap accepted_with (c.splice.ensures ∙ spliced_row q (full (goal.at.returns c).Else-self-gt-CELLS) c.if-self-gt-CELLS.false c.within-w.result.start c.of-own.result c.regroup-rest.result s.0 s.1 _ (row t) (omega arith)))

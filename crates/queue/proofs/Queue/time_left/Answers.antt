@@ -1,34 +1,25 @@
--- `queue::time_left` meets its contract: each test is one of the definition's, and where the event is found `Sought` says that its distance is right.
-use mathlib.Core.Path.{◌≡◌, sym, ◌∙◌}
-use mathlib.Core.Bool.{true}
-use borrow.Author.Tests.{not-true, not-false}
+-- `queue::Queue::time_left` meets its contract: each test is one of the definition's, and where the event is found `Standing` says that its distance is right.
+use Rattle.std.proofs.Common.{◌≡◌, sym, ◌∙◌, true}
 use Rattle.queue.specs.Limits.{max_gap, longest}
 use Rattle.queue.specs.Sound.{soundb}
 use Rattle.queue.specs.Calls.{time_left_of}
-use Rattle.queue.proofs.SoundLaws.{sound_is}
 use Rattle.queue.proofs.Queue.time_left.Goals as goal
 use Rattle.queue.proofs.Queue.time_left.Goals.{Else-not-is_sound}
 
--- past the first test the queue is sound
-known1 : (c : Else-not-is_sound) → soundb max_gap longest c.args.self.now ≡ true
-known1 c = sym c.is_sound.ensures ∙ not-false _ c.if-not-is_sound.false-raw
+sound : (c : Else-not-is_sound) → soundb max_gap longest c.args.self.now ≡ true
+sound c = sym c.is_sound.ensures ∙ c.if-not-is_sound.false
 
 pub returns-then-not-is_sound : goal.returns-then-not-is_sound
 unfolding time_left_of
 returns-then-not-is_sound c =
-    rw (← c.is_sound.ensures, not-true c.is_sound.result c.if-not-is_sound.true-raw)
+    rw (← c.is_sound.ensures, c.if-not-is_sound.true)
 
-pub find-f-requires : goal.find-f-requires
-find-f-requires c =
-    (sound_is max_gap longest c.args.self.now (known1 (goal.at.find-f-requires c).Else-not-is_sound)).short
-
-pub returns-then-not-f : goal.returns-then-not-f
+pub returns-in-Some : goal.returns-in-Some
 unfolding time_left_of
-returns-then-not-f c =
-    rw (known1 (goal.at.returns-then-not-f c).Else-not-is_sound, ← c.find-f.ensures.there, not-true c.find-f.result.found c.if-not-f.true)
+returns-in-Some c =
+    rw (sound (goal.at.returns-in-Some c).Else-not-is_sound, c.in-Some.ensures.there, ← c.in-Some.ensures.away)
 
-pub returns : goal.returns
+pub returns-in-None : goal.returns-in-None
 unfolding time_left_of
-returns c =
-    let y : c.find-f.result.found ≡ true = not-false _ c.if-not-f.false in
-    rw (known1 (goal.at.returns c).Else-not-is_sound, ← c.find-f.ensures.there, y, ← c.find-f.ensures.away y)
+returns-in-None c =
+    rw (sound (goal.at.returns-in-None c).Else-not-is_sound, c.in-None.ensures)

@@ -117,7 +117,7 @@ fn charge_chosen(s: &mut State) -> Choice
     requires { Ticking s.old }
     ensures { (s.new ≡ with_entries (charged_entries s.old) s.old) × (result ≡ choice_of s.old) }
 {
-    let Some(i) = state::chosen(&s.table, &s.entries) else {
+    let Some(i) = s.chosen() else {
         return Choice::Idle;
     };
     match charge(&mut s.entries[i]) {

@@ -6,7 +6,7 @@ use Rattle.state.proofs.Places.{made_one}
 use Rattle.state.proofs.State.fresh.Reads as fresh
 use Rattle.state.proofs.State.is_sound.Reads as is-sound
 use Rattle.state.proofs.Entry.first_pending.Reads as first-pending
-use Rattle.state.proofs.chosen.Reads as chosen
+use Rattle.state.proofs.State.chosen.Reads as chosen
 use Rattle.state.proofs.Entry.gives_up.Reads as gives-up
 use Rattle.state.proofs.Entry.give_up.Reads as give-up
 

@@ -6,7 +6,7 @@ ghost use Rattle.std.specs.Prelude.{◌≡◌, ℕ, map};
 ghost use Rattle.queue.specs.Holds.{in_ticks};
 ghost use Rattle.state.specs.State.{with_budget};
 ghost use Rattle.state.specs.Sound.{task_reach, server_reach, loadb, zero_loadb, entryb, entriesb, all_spentb, stateb};
-ghost use Rattle.state.specs.Choice.{place_in, pendingb, first_pending, some_pending, wantsb, readyb, chosen_from};
+ghost use Rattle.state.specs.Choice.{place_in, pendingb, first_pending, some_pending, wantsb, readyb, chosen_of};
 ghost use Rattle.state.specs.Fresh.{task_away, server_away, fresh_load, fresh_queue, fresh_entry, fresh_of, made_by};
 ghost use Rattle.state.specs.Polling.{gives_upb};
 
@@ -79,6 +79,17 @@ impl State {
             && self.all_spent()
     }
 
+    /// The highest server that is ready. This and what an entry is asked are no calls of document 01: a tick asks them.
+    pub fn chosen(&self) -> Option<usize>
+        ensures { result ≡ place_in (chosen_of self.now) }
+    {
+        self.table
+            .servers
+            .iter()
+            .zip(&self.entries)
+            .position(|(s, e)| e.is_ready(s))
+    }
+
     /// Whether each entry is sound beside its server.
     fn all_sound(&self) -> bool
         ensures { result ≡ entriesb self.now.table.servers self.now.entries }
@@ -100,19 +111,6 @@ impl State {
             .zip(&self.entries)
             .all(|(s, e)| !e.gives_up(s))
     }
-}
-
-// WHO IS CHOSEN, AND WHO GIVES UP. The public ones are what a tick asks of a state; they are no calls of document 01.
-
-/// The highest server that is ready.
-pub fn chosen(table: &Table, entries: &[Entry; Table::ENTRIES]) -> Option<usize>
-    ensures { result ≡ place_in (chosen_from table.now.servers entries.now) }
-{
-    table
-        .servers
-        .iter()
-        .zip(entries)
-        .position(|(s, e)| e.is_ready(s))
 }
 
 impl Load {

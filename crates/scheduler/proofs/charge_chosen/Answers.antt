@@ -8,11 +8,9 @@ use Rattle.scheduler.proofs.charge_chosen.Goals.{In-Some}
 
 -- the chosen one
 chosen : (c : In-Some) → place_in (chosen_of c.args.s.now) ≡ Some c.in-Some.i
-unfolding chosen_of
 chosen c = sym c.in-Some.ensures
 
 pub returns-in_default : goal.returns-in_default
-unfolding chosen_of
 returns-in_default c =
     let none = sym c.in_default.ensures in
     (charge_none c.args.s.now c.requires none, says_idle c.args.s.now c.requires none)

@@ -91,11 +91,7 @@ fn checked(s: &State) -> Result<(), Reason>
     ensures sized { SizedState s.now }
 {
     let _entry = &s.entries[0];
-    if s.is_sound() {
-        Ok(())
-    } else {
-        Err(Reason::Unsound)
-    }
+    s.is_sound().then_some(()).ok_or(Reason::Unsound)
 }
 
 // THE TICK, of a state that is sound, in place

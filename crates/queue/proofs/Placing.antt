@@ -6,10 +6,8 @@ use mathlib.Core.List.{List, [], ◌∷◌, ◌++◌, append_assoc, append-nil}
 use Prim.Native.Nat.{ℕ, zero, suc, ◌+◌, ◌-◌, ◌*◌, ◌/◌, ◌≤◌, ◌<◌}
 use native.Mathlib.Omega.{arith}
 use native.Mathlib.Nat.{div-mul-le_self, zero-mul, suc-mul}
-use Rattle.std.specs.Prelude.{Option, Some, None}
 use lib.Dec.{leb, ltb, eqb}
 use lib.ListN.{length, drop}
-use lib.Seq.{drop-drop}
 use borrow.Author.Tests.{leb-true, leb-false, lt-leb, le-ltb}
 use Rattle.small.specs.Small.{pick}
 use Rattle.refusal.specs.Numbers.{no_room}
@@ -18,10 +16,9 @@ use Rattle.queue.specs.Limits.{cell_count, filler}
 use Rattle.queue.specs.Row.{Event, event, cell, cells_of, queue_of, events_of, chain, cells_for, normal}
 use Rattle.queue.specs.Calls.{changed, formed, overfull, with_event, without_event}
 use Rattle.queue.specs.Steps.{regrouped, place_from, place_cells, place_step}
-use Rattle.queue.specs.Moves.{next, next_of, remove_from, remove_cells}
+use Rattle.queue.specs.Moves.{remove_from, remove_cells}
 use Rattle.queue.specs.declared.Cell.{Cell}
 use Rattle.queue.specs.declared.Queue.{Queue}
-use Rattle.queue.specs.declared.Next.{Next}
 use Rattle.queue.proofs.Cells.{made_len, made_past}
 use Rattle.queue.specs.Meaning.{Sorted}
 use Rattle.queue.proofs.Normal.{Proper, sorted_events, proper_events}
@@ -135,37 +132,6 @@ remove_normal M id t (e ∷ es) s p =
         ≡ normal M t (pick b es (e ∷ without_event id es))
     go true r = regrouped_normal M e.at t es s.1 p.1
     go false r = rw r
-
--- THE NEXT EVENT
-
--- the cells of the next event when it is counted from u, and all cells behind it; none where there is no event
-abbrev pub left_of : ℕ → ℕ → Option Next → List Cell → List Cell
-left_of M u None cs = []
-left_of M u (Some n) cs = cells_for M (n.at - u) n.id ++ drop n.behind cs
-
--- that is what is left of cells that are counted from another time
-pub regrouped_next : (M t u i : ℕ) (ds cs : List Cell) → ds ≡ drop i cs → regrouped M t u ds ≡ left_of M u (next_of t i ds) cs
-regrouped_next M t u i [] cs h = refl
-regrouped_next M t u i (c ∷ ds) cs h =
-    let f : ds ≡ drop (i + 1) cs = ap (drop 1) h ∙ drop-drop 1 i cs in
-    go (eqb c.id filler) f (regrouped_next M (t + c.gap) u (i + 1) ds cs f)
-  where
-    go : (b : Bool) → ds ≡ drop (i + 1) cs → regrouped M (t + c.gap) u ds ≡ left_of M u (next_of (t + c.gap) (i + 1) ds) cs
-        → pick b (regrouped M (t + c.gap) u ds) (cells_for M (t + c.gap - u) c.id ++ ds) ≡ left_of M u (pick b (next_of (t + c.gap) (i + 1) ds) (Some (next c.id (t + c.gap) (i + 1)))) cs
-    go true f r = r
-    go false f r = ap (λ (l : List Cell). cells_for M (t + c.gap - u) c.id ++ l) f
-
--- its place is in the row
-pub next_within : (t i : ℕ) (cs : List Cell) (n : Next) → next_of t i cs ≡ Some n → n.behind ≤ i + length cs
-next_within t i [] n e = cc
-next_within t i (c ∷ cs) n e = go (eqb c.id filler) e (next_within (t + c.gap) (i + 1) cs n)
-  where
-    go : (b : Bool) → pick b (next_of (t + c.gap) (i + 1) cs) (Some (next c.id (t + c.gap) (i + 1))) ≡ Some n
-        → (next_of (t + c.gap) (i + 1) cs ≡ Some n → n.behind ≤ i + 1 + length cs) → n.behind ≤ i + suc (length cs)
-    go true e h = omega (arith, h e)
-    go false e h =
-        let f : next c.id (t + c.gap) (i + 1) ≡ n = cc in
-        omega (arith, ap (λ (x : Next). x.behind) f)
 
 -- OF A SOUND QUEUE
 

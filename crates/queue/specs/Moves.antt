@@ -11,7 +11,6 @@ use Rattle.queue.specs.Steps.{first_cell, regrouped, place_cells, again_step}
 use Rattle.queue.specs.declared.Cell.{Cell}
 use Rattle.queue.specs.declared.Queue.{Queue}
 use Rattle.queue.specs.declared.Walk.{Walk}
-use Rattle.queue.specs.declared.Next.{Next}
 use Rattle.queue.specs.declared.Found.{Found}
 use Rattle.queue.specs.declared.Chain.{Chain}
 use Rattle.queue.specs.declared.Rest.{Rest}
@@ -78,14 +77,6 @@ pub record Passed (cs : List Cell) (d : ℕ) (w : Walk) : Type 0 where
   pub near : w.at ≤ d
   pub beyond : w.next < length cs → let c = get_or cs w.next (cell 0 0) in (d < w.at + c.gap) × (c.gap ≤ max_gap)
   pub row : (M id : ℕ) → place_cells M id d cs ≡ take w.start cs ++ (cells_for M (d - w.last) id ++ regrouped M w.at d (drop w.next cs))
-
--- the next event of cells that stand at a place and are counted from t: its id, its distance and the place behind it
-abbrev pub next : ℕ → ℕ → ℕ → Next
-next id at behind = record { id = id; at = at; behind = behind }
-
-abbrev pub next_of : ℕ → ℕ → List Cell → Option Next
-next_of t i [] = None
-next_of t i (c ∷ cs) = pick (eqb c.id filler) (next_of (t + c.gap) (i + 1) cs) (Some (next c.id (t + c.gap) (i + 1)))
 
 -- the cells of an event with a gap g: how many, and the gap of the first
 unfoldable pub chain_for : ℕ → ℕ → ℕ → Chain

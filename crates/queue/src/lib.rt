@@ -13,12 +13,13 @@ ghost use Rattle.queue.specs.Sound.{soundb};
 ghost use Rattle.queue.specs.Holds.{in_ticks, holdsb};
 ghost use Rattle.queue.specs.Calls.{changed_by, taken_by, left_by, insert_of, remove_of, time_left_of, clock_of, take_of, push_back_of};
 ghost use Rattle.queue.specs.Steps.{first_cell};
-ghost use Rattle.queue.specs.Moves.{seenb, spacedb, gaps_of, sum_of, pass_of, Passed, next_of, Sought, Regrouped};
+ghost use Rattle.queue.specs.Moves.{seenb, spacedb, gaps_of, sum_of, pass_of, Passed, Sought, Regrouped};
 ghost use Rattle.queue.specs.Moves.{chain_for, links_of, queue_with, spliced, push_cells};
 
 use refusal::Reason;
 
-// An event (id 0 to 254) or a filler (id 255), with its gap to the cell before it. The first gap counts from now.
+// An event (id 0 to 254) or a filler (id 255), with its gap to the cell before it. The first gap counts from now. The id tells a filler, and no enum does:
+// a queue of C and of the port's words may hold any byte (`clock_in` of queue_c, `queue_in` of port), and the calls refuse what is not sound.
 #[repr(C)]
 #[derive(Clone, Copy)]
 pub struct Cell {
@@ -47,7 +48,7 @@ impl Cell {
     }
 }
 
-// The first `len` cells are the queue; those past them are zero.
+// The first `len` cells are the queue; those past them are zero. An array and its length, and no Vec: no heap, and C holds this very struct (`clock_in`).
 #[repr(C)]
 #[derive(Clone, Copy)]
 pub struct Queue {
@@ -353,14 +354,6 @@ struct Found {
     at: u32,
 }
 
-// The next event from a place on: its id, its distance, and the place behind it.
-#[derive(Clone, Copy)]
-struct Next {
-    id: u8,
-    at: u32,
-    behind: usize,
-}
-
 impl Queue {
     fn find(&self, id: u8) -> Option<Found>
         ensures { Sought (cells_of self.now) id result }
@@ -384,41 +377,25 @@ impl Queue {
         None
     }
 
-    // The cells from a place on are counted from t.
-    fn next_event(&self, from: usize, t: u32) -> Option<Next>
-        requires { (from ≤ length (cells_of self.now)) × (t ≤ max_gap * cell_count) }
-        ensures { result ≡ next_of t from (drop from (cells_of self.now)) }
-    {
-        let mut at = t;
-        let mut behind = from;
-        for c in &self.row()[from..] {
-            at += u32::from(c.gap);
-            behind += 1;
-            if !c.is_filler() {
-                return Some(Next {
-                    id: c.id,
-                    at,
-                    behind,
-                });
-            }
-        }
-        None
-    }
-
-    // What is left of those cells when they are counted from u.
+    // What is left of the cells from a place on, which are counted from t, when they are counted from u.
     fn regroup(&self, from: usize, t: u32, u: u32) -> Rest
         requires { (from ≤ length (cells_of self.now)) × (t ≤ max_gap * cell_count) }
         ensures { Regrouped (cells_of self.now) from t u result }
     {
-        match self.next_event(from, t) {
-            Some(n) => Rest {
-                then: Chain::of(n.at.saturating_sub(u), n.id),
-                behind: n.behind,
-            },
-            None => Rest {
-                then: Chain::NONE,
-                behind: self.row().len(),
-            },
+        let row = self.row();
+        let mut at = t;
+        for (i, c) in row[from..].iter().enumerate() {
+            at += u32::from(c.gap);
+            if !c.is_filler() {
+                return Rest {
+                    then: Chain::of(at.saturating_sub(u), c.id),
+                    behind: from + i + 1,
+                };
+            }
+        }
+        Rest {
+            then: Chain::NONE,
+            behind: row.len(),
         }
     }
 }

@@ -1,38 +1,51 @@
--- `queue::Queue::regroup` meets its contract: the next event is put together anew, and what stands behind it stays; behind the last event nothing is left.
-use Rattle.std.proofs.Common.{◌≡◌, refl, sym, ap, ◌∙◌, ◌+◌, ◌-◌, ◌/◌, drop, length, length-drop, arith}
-use Rattle.std.proofs.lemmas.List.{drop_all}
-use Rattle.std.specs.Prelude.{Some, None}
-use Rattle.queue.specs.Limits.{max_gap}
-use Rattle.queue.specs.Row.{cells_of}
-use Rattle.queue.specs.Moves.{chain_for, next_of}
+use Rattle.std.proofs.Common.{◌≡◌, sym, ap, ◌∙◌, false, eqb, List, ◌+◌, ◌-◌, ◌/◌, ◌<◌, get_or, take, drop, length, length-drop, arith}
+use Rattle.std.proofs.lemmas.List.{drop_more, drop_all, take_all}
+use lib.Seq.{get_or-drop}
+use Rattle.queue.specs.Limits.{filler}
+use Rattle.queue.specs.Row.{cell}
+use Rattle.queue.specs.Moves.{chain_for}
+use Rattle.queue.specs.declared.Cell.{Cell}
 use Rattle.queue.specs.declared.Chain.{Chain}
 use Rattle.queue.proofs.Moving.{chain_cells}
-use Rattle.queue.proofs.Placing.{regrouped_next, next_within}
 use Rattle.queue.proofs.Queue.regroup.Goals as goal
+use Rattle.queue.proofs.Queue.regroup.Goals.{After-row-row}
 
-pub returns-in-Some : goal.returns-in-Some
+-- the cells from the place on
+abbrev rest : (c : After-row-row) → List Cell
+rest c = take (length c.row-row.result.now - c.args.from) (drop c.args.from c.row-row.result.now)
+
+rest_is : (c : After-row-row) → rest c ≡ drop c.args.from c.row-row.result.now
+rest_is c = take_all _ (drop c.args.from c.row-row.result.now) (rw length-drop (omega arith))
+
+pub returns-then-not-is_filler : goal.returns-then-not-is_filler
 unfolding chain_for
-returns-in-Some c =
-    let cs = cells_of c.args.self.now in
-    let ds = drop c.args.from cs in
-    let n = c.in-Some.n in
-    let e : next_of c.args.t c.args.from ds ≡ Some n = sym c.in-Some.ensures in
-    let w = next_within c.args.t c.args.from ds n e in
-    let l : length ds ≡ length cs - c.args.from = length-drop c.args.from cs in
-    let k : c.of.result.cells ≡ (c.saturating_sub.result - 1) / 65535 + 1 = ap (λ (x : Chain). x.cells) c.of.ensures in
-    record {
-      in_row = omega (arith, c.requires.0);
+returns-then-not-is_filler c =
+    let l = c.loop-i in
+    let cs = c.row-row.result.now in
+    let b = (goal.at.returns-then-not-is_filler c).After-row-row in
+    let n : length (drop c.args.from cs) ≡ length cs - c.args.from = length-drop c.args.from cs in
+    let h : l.i < length (drop c.args.from cs) = rw (rest_is b) at c.loop-i-test.true in
+    let x = get_or cs (c.args.from + l.i) (cell 0 0) in
+    let e : get_or (rest b) l.i (cell 0 0) ≡ x = rw (rest_is b) (get_or-drop c.args.from cs l.i (cell 0 0)) in
+    let f : eqb x.id filler ≡ false = rw e at (sym c.is_filler.ensures ∙ c.if-not-is_filler.true) in
+    let k : c.of.result.cells ≡ (c.saturating_sub.result - 1) / 65535 + 1 = ap (λ (y : Chain). y.cells) c.of.ensures in
+    rw (← c.row-row.ensures.cells)
+    (record {
+      in_row = omega arith;
       few = omega arith;
-      row = regrouped_next max_gap c.args.t c.args.u c.args.from ds cs refl ∙ rw (e, c.of.ensures, chain_cells, c.saturating_sub.ensures);
-    }
+      row = l.invariant.1 ∙ rw (drop_more cs (c.args.from + l.i) (cell 0 0) (omega arith), f, c.of.ensures, chain_cells, c.saturating_sub.ensures, c.from-at.ensures, e);
+    })
 
-pub returns-in-None : goal.returns-in-None
-returns-in-None c =
-    let cs = cells_of c.args.self.now in
-    let ds = drop c.args.from cs in
-    let e : next_of c.args.t c.args.from ds ≡ None = sym c.in-None.ensures in
-    record {
-      in_row = rw c.row.ensures.cells (omega arith);
+pub returns : goal.returns
+returns c =
+    let l = c.loop-i in
+    let cs = c.row-row.result.now in
+    let b = (goal.at.returns c).After-row-row in
+    let n : length (drop c.args.from cs) ≡ length cs - c.args.from = length-drop c.args.from cs in
+    let h = rw (rest_is b) at c.loop-i-test.false in
+    rw (← c.row-row.ensures.cells)
+    (record {
+      in_row = omega arith;
       few = omega arith;
-      row = regrouped_next max_gap c.args.t c.args.u c.args.from ds cs refl ∙ rw (e, c.row.ensures.cells, drop_all (length cs) cs (omega arith));
-    }
+      row = l.invariant.1 ∙ rw (drop_all (c.args.from + l.i) cs (omega arith), drop_all (length cs) cs (omega arith));
+    })

@@ -123,7 +123,7 @@ impl Load {
     fn fresh(task: &Task) -> Load
         ensures { result ≡ fresh_load task.now }
     {
-        let begins = task.release.is_periodic() && task.release.offset().0 == 0;
+        let begins = task.release.is_periodic() && task.release.offset() == Distance(0);
         Load {
             pending: if begins { task.work } else { Served(0) },
             lost: 0,
@@ -239,14 +239,12 @@ impl Timed for Task {
     ghost away = { task_away };
 
     fn reach(&self) -> Distance {
-        let period = self.release.period();
-        let offset = self.release.offset();
-        if period.0 <= offset.0 { offset } else { period }
+        self.release.period().max(self.release.offset())
     }
 
     fn first_away(&self) -> Distance {
         let offset = self.release.offset();
-        if offset.0 == 0 {
+        if offset == Distance(0) {
             self.release.period()
         } else {
             offset
@@ -285,7 +283,7 @@ fn first_events<T: Timed>(timed: &[T; Table::ENTRIES]) -> Queue
     let mut q = Queue::empty();
     for i in 0..Table::ENTRIES {
         let away = timed[i].first_away();
-        if away.0 != 0 {
+        if away != Distance(0) {
             // In a sound table none is refused, and a refused one leaves the queue as it was.
             let _ = q.insert(i as u8, away);
         }

@@ -49,7 +49,7 @@ impl TryFrom<u8> for Kind {
 }
 
 /// A task's release: on arrival, or periodic with its period T and its offset O.
-#[derive(Clone, Copy, Default)]
+#[derive(Clone, Copy, Default, PartialEq, Eq)]
 pub enum Release {
     #[default]
     OnArrival,
@@ -103,7 +103,7 @@ impl Release {
     }
 }
 
-#[derive(Clone, Copy, Default)]
+#[derive(Clone, Copy, Default, PartialEq, Eq)]
 pub struct Task {
     pub work: Served,
     pub release: Release,
@@ -111,7 +111,7 @@ pub struct Task {
 
 // The first `count` tasks are in use; the others are zero. The kind is the document's number and no `Kind`: the port takes any table from C, and crate faults writes
 // unsound ones, so `table_sound` (proofs/Soundness.antt) speaks of tables with other numbers.
-#[derive(Clone, Copy)]
+#[derive(Clone, Copy, PartialEq, Eq)]
 pub struct Server {
     pub tasks: [Task; Table::ENTRIES],
     pub count: usize,
@@ -207,13 +207,8 @@ impl Part for Server {
             && in_use(&self.tasks, self.count)
     }
 
-    #[tactic(auto, using(small::proofs::Used::used_none))]
     fn is_zero(&self) -> bool {
-        self.kind == 0
-            && self.period.0 == 0
-            && self.budget.0 == 0
-            && self.count == 0
-            && in_use(&self.tasks, 0)
+        *self == Server::zero()
     }
 }
 
@@ -235,6 +230,6 @@ impl Part for Task {
     }
 
     fn is_zero(&self) -> bool {
-        self.work.0 == 0 && !self.release.is_periodic()
+        *self == Task::zero()
     }
 }

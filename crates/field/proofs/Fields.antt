@@ -4,12 +4,11 @@ use mathlib.Core.Bool.{Bool, true, false}
 use mathlib.Core.List.{List, [], ◌∷◌, ◌++◌, append_assoc}
 use Prim.Native.Nat.{ℕ, zero, suc, ◌+◌, ◌*◌, ◌/◌, ◌^◌, ◌≤◌, ◌<◌}
 use native.Mathlib.Nat.{add-zero, zero-add, add_assoc, mod-lt, one-le-pow, pow-succ', min-eq_left, min-eq_right, sub_self}
-use native.Mathlib.Numerals.{add-one}
 use native.Mathlib.Omega.{arith}
 use lib.Arith.{digits_lt}
 use lib.Dec.{leb}
-use lib.ListN.{set, length, take, drop, length-append, length-drop, take-append-drop, get_or-eq_default, drop_of_length-le}
-use lib.Seq.{take-set-lt, sets, sets-eq, length-take-le, take_at, drop_at, drop-drop, get_or-drop}
+use lib.ListN.{set, length, take, drop, length-append, length-drop, take-append-drop, drop_of_length-le}
+use lib.Seq.{take-set-lt, length-take-le, take_at, drop_at, drop-drop, get_or-drop}
 use borrow.Author.Tests.{le-leb, lt-leb, leb-true, leb-false}
 use Rattle.std.specs.List.{slice_range}
 use Rattle.std.specs.Prelude.{min}
@@ -55,15 +54,7 @@ pub field_below : (w : ℕ) (bs : List ℕ) → Bytes bs → field_of w bs < 256
 field_below zero bs p = positive 0
 field_below (suc w) bs p = rw pow-succ' (digits_lt (byte_below bs p) (field_below w (drop 1 bs) (bytes_drop 1 bs p)))
 
--- what stands past the end reads as 0
-pub byte_past : (at k : ℕ) (bs : List ℕ) → length bs ≤ at + k → byte_of k (drop at bs) ≡ 0
-byte_past at k bs h = get_or-drop at bs k 0 ∙ get_or-eq_default bs 0 h
-
--- a field's first byte, and the field of the rest
-pub field_step : (w k j : ℕ) (bs : List ℕ) → j ≡ suc k → field_of (suc w) (drop k bs) ≡ byte_of k bs * 256 ^ w + field_of w (drop j bs)
-field_step w k j bs e = rw (e, get_or-drop, drop-drop, add-zero, add-one)
-
--- the same from the other end: the field of the bytes before, and the last
+-- a field's bytes but the last are a field, and the last stands behind them
 pub field_more : (w : ℕ) (bs : List ℕ) → field_of (suc w) bs ≡ field_of w bs * 256 + byte_of w bs
 field_more zero bs = omega arith
 field_more (suc w) bs =
@@ -86,10 +77,7 @@ rest_from at bs = go (leb at (length bs)) refl
         let h : length bs ≤ at = omega (arith, leb-false at (length bs) e) in
         rw (min-eq_right h, sub_self) (sym (drop_of_length-le bs h))
 
--- a byte is a field, and the bytes of a byte are itself
-pub field_byte : (bs : List ℕ) → field_of 1 bs ≡ byte_of 0 bs
-field_byte bs = omega arith
-
+-- the bytes of a byte are itself
 pub big_byte : (n : ℕ) → n < 256 → big 1 n ≡ n ∷ []
 big_byte n h = ap (λ b. b ∷ []) (omega arith)
 
@@ -140,11 +128,7 @@ over_over at xs ys buf h =
     )
     (simp (drop-drop, length-append, add_assoc, append_assoc))
 
--- stores from a place on, one behind the other
-pub over_sets : (at : ℕ) (xs buf : List ℕ) → at + length xs ≤ length buf → sets buf at xs ≡ over at xs buf
-over_sets at xs buf h = sets-eq xs buf at h ∙ append_assoc (take at buf) xs _ ∙ sym (over_fits at xs buf h)
-
--- and from behind: a store before what was written last
+-- a store right before what was written last
 pub over_before : (at x : ℕ) (xs buf : List ℕ) → at + 1 + length xs ≤ length buf → set (over (at + 1) xs buf) at x ≡ over at (x ∷ xs) buf
 over_before at x xs buf h =
     let k : at + 1 ≤ length buf = omega arith in

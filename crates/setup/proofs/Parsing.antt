@@ -3,11 +3,11 @@ use mathlib.Core.Path.{◌≡◌, refl, sym, ap, ◌∙◌}
 use mathlib.Core.List.{List, [], ◌∷◌, ◌++◌}
 use mathlib.Core.Logic.{◌≢◌}
 use Prim.Native.Nat.{ℕ, zero, suc, ◌+◌, ◌*◌, ◌-◌, ◌≤◌, ◌<◌}
-use native.Mathlib.Nat.{add-zero, add_assoc}
+use native.Mathlib.Nat.{add_assoc}
 use native.Mathlib.Numerals.{add-one}
 use native.Mathlib.Omega.{arith}
 use lib.Dec.{leb, ltb, eqb}
-use lib.ListN.{length, drop, set, replicate, length-drop}
+use lib.ListN.{length, drop, set, length-drop}
 use lib.Seq.{drop-drop}
 use borrow.Author.Tests.{ne_eqb, lt-ltb, le-ltb, ltb-false, leb-true, not-false}
 use Rattle.std.specs.Prelude.{Result, Ok, Err}
@@ -69,13 +69,6 @@ module _ {A : Type 0} (checks : ℕ → List ℕ → List Check) (gives : List �
     pub read : xs ≡ padded z most (all_given gives span i bs)
     pub left : first_of (all_checks checks span n k bs) ≡ first_of (all_checks checks span (n - i) at rest)
 
-  -- it begins with none
-  pub so_far_none : (z : A) (most k : ℕ) (bs : List ℕ) (n : ℕ) → SoFar z most k bs n (replicate most z) k bs 0
-  so_far_none z most k bs n =
-      let e : n - 0 ≡ n = omega arith in
-      let f : most - 0 ≡ most = omega arith in
-      record { within = omega arith; place = sym (add-zero k); behind = refl; read = rw f; left = rw e }
-
 module _ {A : Type 0} {checks : ℕ → List ℕ → List Check} {gives : List ℕ → A} {span : List ℕ → ℕ} {z : A} {most k : ℕ} {bs : List ℕ} {n : ℕ} {xs : List A}
     {at : ℕ} {rest : List ℕ} {i : ℕ} (s : SoFar checks gives span z most k bs n xs at rest i) (numbered : (k : ℕ) (bs : List ℕ) → Numbered (checks k bs)) where
   -- what is left to check: the record here, and those behind it
@@ -106,12 +99,6 @@ module _ {A : Type 0} {checks : ℕ → List ℕ → List Check} {gives : List �
   -- it is refused
   pub so_far_refused : i < n → (first_of (checks at rest)).number ≢ 0 → first_of (all_checks checks span n k bs) ≡ first_of (checks at rest)
   so_far_refused h o = left_is h ∙ rw (ne_eqb _ 0 o)
-
-  -- all are read
-  pub so_far_all : n ≤ i → (i ≡ n) × (first_of (all_checks checks span n k bs) ≡ none)
-  so_far_all h =
-      let f : n - i ≡ 0 = omega arith in
-      (omega (arith, s.within), s.left ∙ rw f)
 
 -- THE RECORDS OF A SETUP, for any longest distance D and any most work W
 

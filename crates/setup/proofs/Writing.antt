@@ -7,7 +7,7 @@ use Prim.Native.Nat.{ℕ, zero, suc, ◌+◌, ◌*◌, ◌≤◌, ◌<◌}
 use native.Mathlib.Nat.{add-zero}
 use native.Mathlib.Omega.{arith}
 use lib.ListN.{length, take, get_or, length-append}
-use lib.Seq.{take_all, take-length}
+use lib.Seq.{take-length}
 use lib.Dec.{leb}
 use borrow.Author.Tests.{leb-true}
 use Rattle.small.specs.Small.{each, usedb, All}
@@ -54,11 +54,6 @@ module _ {A : Type 0} (f : A → List ℕ) (xs : List A) (at : ℕ) (buf : List 
       place = omega (arith, d.place, length_more f xs i z (omega arith));
       bytes = rw (each_more f xs i z (omega arith)) (further at next _ _ buf out out' d.bytes b d.place fits);
     }
-
-  pub done_all : {i next : ℕ} {out : List ℕ} → length xs ≤ i → Done f xs at buf i next out → (next ≡ at + length (each f xs)) × (out ≡ over at (each f xs) buf)
-  done_all {i} h d =
-      let e = take_all i xs h in
-      (rw e at d.place, rw e at d.bytes)
 
 -- LENGTHS
 

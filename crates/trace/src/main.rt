@@ -89,6 +89,7 @@ impl<P: Print> Output<'_, P> {
             Ok(line) => self.put(|out, at| lines::message_line(out, at, line))?,
             Err(reason) => return self.refuse(reason, place),
         }
+        // how many ticks a batch has is the desk's to say: no range is walked
         while 0 < desk.left {
             self.spare()?;
             match desk.run_on() {

@@ -35,16 +35,31 @@ module _ (d : Desk) (k : ℕ) (bs : List ℕ) where
   abbrev m : Met
   m = message_of d k bs
 
+  -- what its line's number is, case by case
+  number_from : (n : ℕ) (Q : Type 0)
+      → (stateb d.state ≡ false → unsound ≡ n → Q)
+      → (stateb d.state ≡ true → (read_of bs).refusal.number ≢ 0 → (read_of bs).refusal.number ≡ n → Q)
+      → (stateb d.state ≡ true → (q : ℕ) → read_of bs ≡ read_with none (Run q) → tick_limit < d.ran + d.left + q → ticks_passed ≡ n → Q)
+      → (stateb d.state ≡ true → (q : ℕ) → read_of bs ≡ read_with none (Run q) → d.ran + d.left + q ≤ tick_limit → 0 ≡ n → Q)
+      → (stateb d.state ≡ true → (i j : ℕ) → read_of bs ≡ read_with none (Arrival i j) → (arrive_of d.state i j).refusal.number ≡ n → Q)
+      → line_number m.line ≡ n → Q
+  number_from n Q other unread past runs arrives =
+      message_cases d k bs (λ (x : Met). line_number x.line ≡ n → Q) other unread past runs (λ s i j e f. arrives s i j e (sym (arrived_number d i j k) ∙ f))
+
+  -- and what it is in a case
+  number_in : {x : Met} → m ≡ x → line_number m.line ≡ line_number x.line
+  number_in e = ap (λ (x : Met). line_number x.line) e
+
   -- "queue, state or table handed in isn't sound", which comes first
   pub message_31 : line_number m.line ≡ unsound ↔ (stateb d.state ≡ false)
   message_31 = (
-    message_cases d k bs (λ (x : Met). line_number x.line ≡ unsound → stateb d.state ≡ false)
+    number_from unsound (stateb d.state ≡ false)
         (λ s e. s)
         (λ s h e. absurd (unread_numbers bs unsound (omega arith) e))
-        (λ s n e h f. absurd (omega arith))
-        (λ s n e h f. absurd (omega arith))
-        (λ s i j e f. (arrive_31 d.state i j).0 (sym (arrived_number d i j k) ∙ f)),
-    λ s. ap (λ (x : Met). line_number x.line) (message_unsound d k bs s),
+        (λ s q e h f. absurd (omega arith))
+        (λ s q e h f. absurd (omega arith))
+        (λ s i j e f. (arrive_31 d.state i j).0 f),
+    λ s. number_in (message_unsound d k bs s),
   )
 
   -- so it is never given to a run from an accepted setup, whose state is sound (proofs/Keeps.antt)
@@ -55,43 +70,40 @@ module _ (d : Desk) (k : ℕ) (bs : List ℕ) where
   pub message_21 : line_number m.line ≡ ticks_passed
       ↔ (stateb d.state ≡ true) × ((n : ℕ) × (read_of bs ≡ read_with none (Run n)) × (tick_limit < d.ran + d.left + n))
   message_21 = (
-    message_cases d k bs
-        (λ (x : Met). line_number x.line ≡ ticks_passed
-        → (stateb d.state ≡ true) × ((n : ℕ) × (read_of bs ≡ read_with none (Run n)) × (tick_limit < d.ran + d.left + n)))
+    number_from ticks_passed _
         (λ s f. absurd (omega arith))
         (λ s h e. absurd (unread_numbers bs ticks_passed (omega arith) e))
-        (λ s n e h f. (s, (n, e, h)))
-        (λ s n e h f. absurd (omega arith))
-        (λ s i j e f. absurd (arrive_not_21 d.state i j (sym (arrived_number d i j k) ∙ f))),
-    λ h. ap (λ (x : Met). line_number x.line) (message_past d k bs h.0 h.1.0 h.1.1 h.1.2),
+        (λ s q e h f. (s, (q, e, h)))
+        (λ s q e h f. absurd (omega arith))
+        (λ s i j e f. absurd (arrive_not_21 d.state i j f)),
+    λ h. number_in (message_past d k bs h.0 h.1.0 h.1.1 h.1.2),
   )
 
   -- 14 to 17 are the reader's
   pub message_unread_when : (n : ℕ) → 0 < n → n < 18 → line_number m.line ≡ n ↔ (stateb d.state ≡ true) × ((read_of bs).refusal.number ≡ n)
   message_unread_when n z l = (
-    message_cases d k bs (λ (x : Met). line_number x.line ≡ n → (stateb d.state ≡ true) × ((read_of bs).refusal.number ≡ n))
+    number_from n _
         (λ s f. absurd (omega arith))
         (λ s h e. (s, e))
         (λ s q e h f. absurd (omega arith))
         (λ s q e h f. absurd (omega arith))
-        (λ s i j e f. absurd (arrive_numbers d.state i j n z l (sym (arrived_number d i j k) ∙ f))),
-    λ h. ap (λ (x : Met). line_number x.line) (message_unread d k bs h.0 (λ f. omega (arith, h.1))) ∙ h.1,
+        (λ s i j e f. absurd (arrive_numbers d.state i j n z l f)),
+    λ h. number_in (message_unread d k bs h.0 (λ f. omega (arith, h.1))) ∙ h.1,
   )
 
   -- 18 to 20 are the arrival call's
   pub message_arrival_when : (n : ℕ) → 17 < n → n < ticks_passed
       → line_number m.line ≡ n ↔ ((i j : ℕ) × (read_of bs ≡ read_with none (Arrival i j)) × ((arrive_of d.state i j).refusal.number ≡ n))
   message_arrival_when n l o = (
-    message_cases d k bs
-        (λ (x : Met). line_number x.line ≡ n → (i j : ℕ) × (read_of bs ≡ read_with none (Arrival i j)) × ((arrive_of d.state i j).refusal.number ≡ n))
+    number_from n _
         (λ s f. absurd (omega arith))
         (λ s h e. absurd (unread_numbers bs n l e))
         (λ s q e h f. absurd (omega arith))
         (λ s q e h f. absurd (omega arith))
-        (λ s i j e f. (i, j, e, sym (arrived_number d i j k) ∙ f)),
+        (λ s i j e f. (i, j, e, f)),
     λ h. let (i, j, e, f) = h in
         let s = arrive_sound_by d.state i j (λ g. omega arith) in
-        ap (λ (x : Met). line_number x.line) (message_arrives d k bs s i j e) ∙ arrived_number d i j k ∙ f,
+        number_in (message_arrives d k bs s i j e) ∙ arrived_number d i j k ∙ f,
   )
 
   -- and no refusal exactly when the state is sound and it asks for ticks within the limit, or for an arrival that is not refused
@@ -100,20 +112,16 @@ module _ (d : Desk) (k : ℕ) (bs : List ℕ) where
       × (((n : ℕ) × (read_of bs ≡ read_with none (Run n)) × (d.ran + d.left + n ≤ tick_limit))
       ⊎ ((i j : ℕ) × (read_of bs ≡ read_with none (Arrival i j)) × ((arrive_of d.state i j).refusal.number ≡ 0)))
   message_accepted = (
-    message_cases d k bs
-        (λ (x : Met). line_number x.line ≡ 0
-        → (stateb d.state ≡ true)
-        × (((n : ℕ) × (read_of bs ≡ read_with none (Run n)) × (d.ran + d.left + n ≤ tick_limit))
-        ⊎ ((i j : ℕ) × (read_of bs ≡ read_with none (Arrival i j)) × ((arrive_of d.state i j).refusal.number ≡ 0))))
+    number_from 0 _
         (λ s f. absurd (omega arith))
         (λ s h f. absurd (h f))
-        (λ s n e h f. absurd (omega arith))
-        (λ s n e h f. (s, inl (n, e, h)))
-        (λ s i j e f. (s, inr (i, j, e, sym (arrived_number d i j k) ∙ f))),
+        (λ s q e h f. absurd (omega arith))
+        (λ s q e h f. (s, inl (q, e, h)))
+        (λ s i j e f. (s, inr (i, j, e, f))),
     λ h.
         ⊎_elim
-        (λ x. ap (λ (y : Met). line_number y.line) (message_runs d k bs h.0 x.0 x.1 x.2))
-        (λ x. ap (λ (y : Met). line_number y.line) (message_arrives d k bs h.0 x.0 x.1 x.2) ∙ arrived_number d x.0 x.1 k ∙ x.3)
+        (λ x. number_in (message_runs d k bs h.0 x.0 x.1 x.2))
+        (λ x. number_in (message_arrives d k bs h.0 x.0 x.1 x.2) ∙ arrived_number d x.0 x.1 k ∙ x.3)
         h.1,
   )
 

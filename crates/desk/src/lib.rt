@@ -76,8 +76,9 @@ impl Desk {
         }
         let Batch { answers, count } = scheduler::run(&mut self.state, self.left as usize)?;
         let first = self.ran;
-        self.ran += count as u32;
-        self.left -= count as u32;
+        let ticks = count as u32;
+        self.ran += ticks;
+        self.left -= ticks;
         Ok(Ran {
             answers,
             first,

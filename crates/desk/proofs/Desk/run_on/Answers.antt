@@ -32,17 +32,13 @@ returns-in_err-answers c =
     let p = err_from_is_err_and r.result r.ensures.1 in
     rw (p.1, p.2) (ran_err c.args.self.now c.run.new.s c.if-self-gt-LIMIT.false c.in_err-answers.field-0.0 c.in_err-answers.ensures)
 
-pub overflow_cast-self-4 : goal.overflow_cast-self-4
-overflow_cast-self-4 c =
-    omega (arith, (count (goal.at.overflow_cast-self-4 c).In_ok-answers).1)
+pub overflow_cast-ticks : goal.overflow_cast-ticks
+overflow_cast-ticks c =
+    omega (arith, (count (goal.at.overflow_cast-ticks c).In_ok-answers).1)
 
 pub overflow_add-self-2 : goal.overflow_add-self-2
 overflow_add-self-2 c =
     omega (arith, (count (goal.at.overflow_add-self-2 c).In_ok-answers).0)
-
-pub overflow_cast-self-5 : goal.overflow_cast-self-5
-overflow_cast-self-5 c =
-    omega (arith, (count (goal.at.overflow_cast-self-5 c).In_ok-answers).1)
 
 pub overflow_sub-self : goal.overflow_sub-self
 overflow_sub-self c =

@@ -1,5 +1,5 @@
--- The first place that passes a test, as a number and as what `position` gives: the first task with pending work, and the highest server that is ready.
--- Assumes nothing.
+-- The first place that passes a test, as a number and as what `position` gives: the first task with pending work, and the highest server that is ready. And
+-- who wants a tick, by the kind that a number is. Assumes nothing.
 use mathlib.Core.Path.{◌≡◌, refl, sym, ap, ◌∙◌}
 use mathlib.Core.Bool.{Bool, true, false, not, cond}
 use mathlib.Core.List.{List, [], ◌∷◌}

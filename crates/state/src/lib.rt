@@ -30,6 +30,8 @@ pub struct Entry {
     pub budget: Served,
 }
 
+/// An entry stands at the place of its server, and a load at that of its task: apart from the table, which is what a setup gives and never changes. `stateb`
+/// and the words of a state in C have both.
 #[derive(Clone, Copy)]
 pub struct State {
     pub entries: [Entry; Table::ENTRIES],
@@ -266,6 +268,7 @@ impl Timed for Server {
     }
 }
 
+// A loop, as in `first_events`: of a closure for `array::from_fn` that reads an entry of type T nothing is learned, and the proof did not close.
 fn reaches<T: Timed>(timed: &[T; Table::ENTRIES]) -> [Distance; Table::ENTRIES]
     ensures { in_ticks result ≡ map T.reach timed.now }
 {

@@ -109,8 +109,8 @@ pub struct Task {
     pub release: Release,
 }
 
-// The first `count` tasks are in use; the others are zero. The kind is the document's number and no `Kind`: the port takes any table from C, and crate faults writes
-// unsound ones, so `table_sound` (proofs/Soundness.antt) speaks of tables with other numbers.
+// The first `count` tasks are in use; the others are zero: a count beside the array, since memory is fixed and `table_sound` (proofs/Soundness.antt) speaks of
+// every count. The kind stays the document's number: the port takes any table from C, crate faults writes unsound ones, and `table_sound` has others too.
 #[derive(Clone, Copy, PartialEq, Eq)]
 pub struct Server {
     pub tasks: [Task; Table::ENTRIES],
@@ -120,7 +120,7 @@ pub struct Server {
     pub budget: Served,
 }
 
-// The first `count` servers are in use; the others are zero.
+// The first `count` servers are in use; the others are zero. The count stands beside the array as a server's does.
 #[derive(Clone, Copy)]
 pub struct Table {
     pub servers: [Server; Table::ENTRIES],
@@ -154,7 +154,7 @@ impl Table {
 
     pub const MOST_WORK: u32 = 1_000_000;
 
-    // Every entry unused: what a refused reader hands back.
+    // Every entry unused.
     pub fn zero() -> Table
         ensures { result ≡ zero_table }
     {
@@ -174,6 +174,7 @@ impl Table {
 }
 
 impl Server {
+    // `zero_server` value by value: its distances have no default, and a derived one would say no more plainly what is 0.
     pub fn zero() -> Server
         ensures { result ≡ zero_server }
     {

@@ -7,6 +7,7 @@ ghost use Rattle.std.specs.Io.KnownBytes.{Consumes};
 use std::io::Read;
 
 /// Reads until the buffer is full, the input ends or a read fails, and gives how many bytes it put at the buffer's start: those that the reader had next.
+/// No equation: how many come is for the outside to say.
 pub fn read_full<R: Read>(reader: &mut R, buffer: &mut [u8]) -> usize
     ensures count { result ≤ length buffer.new }
     ensures bytes { Consumes (R.remaining reader.old) (R.remaining reader.new) (take result buffer.new) }

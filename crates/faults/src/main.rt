@@ -189,7 +189,7 @@ fn cut_records(rt: &impl Print) -> io::Result<()> {
 
 // The first n bytes, or all where there are fewer.
 fn front(s: &[u8], n: u16) -> &[u8] {
-    s.get(..n as usize).unwrap_or(s)
+    s.get(..usize::from(n)).unwrap_or(s)
 }
 
 // The worked setup with another record at a place.

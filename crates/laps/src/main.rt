@@ -19,7 +19,7 @@ struct Sums {
 }
 
 impl Sums {
-    fn add(&mut self, a: Answer) {
+    fn add(&mut self, a: &Answer) {
         self.ticks = self.ticks.wrapping_add(1);
         self.handled = self.handled.wrapping_add(u64::from(a.handled));
         let alike = match a.choice {
@@ -52,7 +52,7 @@ fn laps(s: &mut State, n: u16) -> Result<Sums, Reason> {
     for _ in 0..n {
         let batch = scheduler::run(s, State::BATCH)?;
         for a in &batch.answers {
-            sums.add(*a);
+            sums.add(a);
         }
     }
     Ok(sums)

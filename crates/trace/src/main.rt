@@ -65,11 +65,11 @@ impl<P: Print> Output<'_, P> {
     // Puts lines behind what the buffer holds: the sum is a place in the buffer, so it does not wrap.
     fn put<F: FnOnce(&mut [u8], usize) -> Result<usize, Reason>>(
         &mut self,
-        lines: F,
+        writer: F,
     ) -> Result<(), Stop>
-        requires { F.IsAlwaysCallable lines }
+        requires { F.IsAlwaysCallable writer }
     {
-        let n = lines(&mut self.buffer, self.at).map_err(|_| Stop::NoRoom)?;
+        let n = writer(&mut self.buffer, self.at).map_err(|_| Stop::NoRoom)?;
         self.at = self.at.wrapping_add(n);
         Ok(())
     }
@@ -157,7 +157,7 @@ fn program(rt: &(impl Input + Print)) -> Result<(), Stop> {
         buffer: [0; OUTPUT],
         at: 0,
     };
-    out.put(|out, at| lines::header(out, at))?;
+    out.put(lines::header)?;
     match Desk::open(setup) {
         Ok(mut desk) => messages(&mut reader, &mut input, &mut out, &mut desk, place),
         Err(fault) => out.refuse(fault.reason, fault.place as u64),

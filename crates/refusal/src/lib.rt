@@ -2,13 +2,12 @@
 #![tactic(auto)]
 
 ghost use Rattle.std.specs.Prelude.{◌≡◌};
-ghost use Rattle.refusal.specs.Refusal.{none, refused};
 ghost use Rattle.refusal.specs.Reason.{number_of, fault_of, refusal_by, refusal_at};
 
 use std::error::Error;
 use std::fmt;
 
-/// A row of the document's table, with its number.
+/// A row of the document's table, with its number. specs/Numbers.antt has the same names for the definitions.
 #[derive(Clone, Copy, Debug, PartialEq, Eq)]
 pub enum Reason {
     SetupShort = 1,
@@ -86,7 +85,8 @@ impl fmt::Display for Fault {
 
 impl Error for Fault {}
 
-/// What a call answers in C: number 0 is "not refused", and the place is 0 where the document names none. The definitions say a call's outcome by it too.
+/// What a call answers in C, which has no `Result`: number 0 is "not refused", and the place is 0 where the document names none. The definitions say a call's
+/// outcome by it too.
 #[repr(C)]
 #[derive(Clone, Copy, Debug, PartialEq, Eq)]
 pub struct Refusal {
@@ -99,93 +99,6 @@ impl Refusal {
         number: 0,
         place: 0,
     };
-}
-
-// The table's numbers, named once. specs/Numbers.antt has the same names for the definitions.
-// OLD: these go when every crate above answers a Result.
-impl Refusal {
-    pub const SETUP_SHORT: u8 = 1;
-
-    pub const LENGTH_DIFFERS: u8 = 2;
-
-    pub const SETUP_VERSION: u8 = 3;
-
-    pub const SERVER_COUNT: u8 = 4;
-
-    pub const RECORD_CUT: u8 = 5;
-
-    pub const SERVER_KIND: u8 = 6;
-
-    pub const TASK_COUNT: u8 = 7;
-
-    pub const PERIOD_RANGE: u8 = 8;
-
-    pub const BUDGET_RANGE: u8 = 9;
-
-    pub const RELEASE_KIND: u8 = 10;
-
-    pub const WORK_RANGE: u8 = 11;
-
-    pub const RELEASE_TIMES: u8 = 12;
-
-    pub const BYTES_LEFT: u8 = 13;
-
-    pub const MESSAGE_CUT: u8 = 14;
-
-    pub const MESSAGE_LENGTH: u8 = 15;
-
-    pub const MESSAGE_VERSION: u8 = 16;
-
-    pub const MESSAGE_KIND: u8 = 17;
-
-    pub const NO_SERVER: u8 = 18;
-
-    pub const NO_TASK: u8 = 19;
-
-    pub const TASK_PERIODIC: u8 = 20;
-
-    pub const TICKS_PASSED: u8 = 21;
-
-    pub const ID_OF_FILLER: u8 = 22;
-
-    pub const ID_THERE: u8 = 23;
-
-    pub const DELAY_TOO_LONG: u8 = 24;
-
-    pub const NO_ROOM: u8 = 25;
-
-    pub const NO_SUCH_EVENT: u8 = 26;
-
-    pub const EVENT_DUE: u8 = 27;
-
-    pub const NOTHING_DUE: u8 = 28;
-
-    pub const AT_LONGEST: u8 = 29;
-
-    pub const NO_ROOM_AGAIN: u8 = 30;
-
-    pub const UNSOUND: u8 = 31;
-
-    pub const BUFFER_SHORT: u8 = 32;
-
-    pub fn none() -> Refusal
-        ensures { result ≡ none }
-    {
-        Refusal {
-            number: 0,
-            place: 0,
-        }
-    }
-
-    // Refused, where the document names no place.
-    pub fn numbered(number: u8) -> Refusal
-        ensures { result ≡ refused number 0 }
-    {
-        Refusal {
-            number: number,
-            place: 0,
-        }
-    }
 }
 
 impl From<Reason> for Refusal {

@@ -1,12 +1,13 @@
 -- What the private functions give. No promise is stated by these: they stand between the code's loops and the definitions.
 use Rattle.std.specs.Prelude.{refl, List, [], ◌∷◌, ◌++◌, ℕ, zero, suc, ◌+◌, drop, replicate}
-use Rattle.refusal.specs.Refusal.{Check}
+use Rattle.refusal.specs.Numbers.{release_times}
+use Rattle.refusal.specs.Refusal.{Check, check_at}
 use Rattle.refusal.proofs.Exactly.{Numbered, numbered, numbered_append}
 use Rattle.field.specs.Field.{byte_of, field_of}
 use Rattle.table.specs.Limits.{entries}
 use Rattle.table.specs.Table.{ticks, served, zero_task}
 use Rattle.table.specs.declared.Server.{Server}
-use Rattle.setup.specs.Read.{task_size, task_checks, tasks_checks, head_size, head_checks, server_checks, start_checks}
+use Rattle.setup.specs.Read.{period_wrong, offset_wrong, task_size, task_checks, tasks_checks, head_size, head_checks, server_checks, start_checks}
 
 -- a server's head, read with no task
 abbrev pub head_of : List ℕ → Server
@@ -17,6 +18,11 @@ head_of bs = record {
   period = ticks (field_of 4 (drop 2 bs));
   budget = served (field_of 4 (drop 6 bs));
 }
+
+-- the tests of a task's T and O, which stand at a place, for a release
+unfoldable pub times_checks : ℕ → ℕ → ℕ → List ℕ → List Check
+times_checks D release k bs =
+    check_at release_times k (period_wrong D release (field_of 4 bs)) ∷ check_at release_times (k + 4) (offset_wrong D release (field_of 4 (drop 4 bs))) ∷ []
 
 -- N RECORDS OF ONE KIND, one behind the other, where one is checked at a place, read from its bytes and takes so many of them
 

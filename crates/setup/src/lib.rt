@@ -15,9 +15,9 @@ ghost use Rattle.table.specs.Limits.{most_work, entries};
 ghost use Rattle.table.specs.Table.{zero_task, zero_server};
 ghost use Rattle.table.specs.Sound.{rangeb, tableb};
 ghost use Rattle.setup.specs.Layout.{task_bytes, server_bytes, bytes_of};
-ghost use Rattle.setup.specs.Read.{task_size, task_checks, task_of, head_size, head_checks, server_checks, server_of, server_size, start_checks, reading_by, read_of};
+ghost use Rattle.setup.specs.Read.{task_size, task_checks, task_of, release_of, head_size, head_checks, server_checks, server_of, server_size, start_checks, reading_by, read_of};
 ghost use Rattle.setup.specs.Write.{write_refusal, written_to};
-ghost use Rattle.setup.specs.Moves.{head_of, all_checks, all_given, all_size, task_numbered, server_numbered};
+ghost use Rattle.setup.specs.Moves.{head_of, times_checks, all_checks, all_given, all_size, task_numbered, server_numbered};
 
 use field::Field;
 use queue::{Distance, Queue};
@@ -100,6 +100,28 @@ impl Reader<'_> {
             kind: kind.number(),
             period: Distance(period),
             budget: Served(budget),
+        })
+    }
+
+    /// A task's T and O, with the number of its release: on arrival both are 0.
+    #[tactic(auto, unfolding(crate::specs::Moves::times_checks))]
+    fn release(&mut self, number: u32) -> Result<Release, Fault>
+        requires { 8 ≤ length self.old.rest.now }
+        ensures refusal { fault_in result ≡ first_of (times_checks longest number self.old.at self.old.rest.now) }
+        ensures value { IfOk result (λ r. r ≡ release_of number (field_of 4 self.old.rest.now) (field_of 4 (drop 4 self.old.rest.now))) }
+        ensures at { OnOk result (self.new.at ≡ self.old.at + 8) }
+        ensures rest { OnOk result (self.new.rest.now ≡ drop 8 self.old.rest.now) }
+    {
+        if number == 0 {
+            self.number::<u32>(0..=0, Reason::ReleaseTimes)?; // T
+            self.number::<u32>(0..=0, Reason::ReleaseTimes)?; // O
+            return Ok(Release::OnArrival);
+        }
+        let period = self.number::<u32>(1..=Queue::LONGEST, Reason::ReleaseTimes)?;
+        let offset = self.number::<u32>(0..=Queue::LONGEST, Reason::ReleaseTimes)?;
+        Ok(Release::Periodic {
+            period: Distance(period),
+            offset: Distance(offset),
         })
     }
 
@@ -219,27 +241,12 @@ impl Record for Task {
         Task::zero()
     }
 
-    #[tactic(auto, unfolding(crate::specs::Read::task_of, crate::specs::Read::task_checks))]
+    #[tactic(auto, unfolding(crate::specs::Read::task_of, crate::specs::Read::task_checks, crate::specs::Moves::times_checks))]
     fn read(r: &mut Reader) -> Result<Task, Fault> {
         r.whole(TASK)?;
         let release = r.number::<u8>(0..=1, Reason::ReleaseKind)?;
         let work = r.number::<u32>(1..=Table::MOST_WORK, Reason::WorkRange)?;
-        // On arrival T and O are 0.
-        let (periods, offsets) = if release == 0 {
-            (0..=0, 0..=0)
-        } else {
-            (1..=Queue::LONGEST, 0..=Queue::LONGEST)
-        };
-        let period = r.number::<u32>(periods, Reason::ReleaseTimes)?;
-        let offset = r.number::<u32>(offsets, Reason::ReleaseTimes)?;
-        let release = if release == 0 {
-            Release::OnArrival
-        } else {
-            Release::Periodic {
-                period: Distance(period),
-                offset: Distance(offset),
-            }
-        };
+        let release = r.release(release)?;
         Ok(Task {
             work: Served(work),
             release,

@@ -19,9 +19,9 @@ pub trait Field: Copy {
     fn wide(self) -> u32
         ensures { result ≡ value self };
 
+    /// The lowest bytes of a number, as many as it has.
     fn narrow(n: u32) -> Self
-        requires { n < 256 ^ WIDTH }
-        ensures { value result ≡ n };
+        ensures { value result ≡ n % 256 ^ WIDTH };
 
     ghost few: { WIDTH ≤ 4 };
 
@@ -44,7 +44,7 @@ impl Field for u8 {
     }
 
     fn narrow(n: u32) -> u8 {
-        n as u8
+        (n % 256) as u8
     }
 }
 
@@ -64,7 +64,7 @@ impl Field for u16 {
     }
 
     fn narrow(n: u32) -> u16 {
-        n as u16
+        (n % 65_536) as u16
     }
 }
 

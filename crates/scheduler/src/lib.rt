@@ -29,7 +29,7 @@ pub struct Answer {
     pub handled: u32,
 }
 
-/// The answers of `count` ticks in a row. Those behind them are idle.
+/// The answers of `count` ticks in a row. Those behind them are idle. An array and how far it is used: there is no heap.
 #[derive(Clone, Copy)]
 pub struct Batch {
     pub answers: [Answer; State::BATCH],
@@ -141,6 +141,7 @@ fn handle_refills(s: &mut State) -> u32
 {
     s.refills.tick();
     let mut due = 0;
+    // It counts events and walks no places: each turn changes what is due, so there is nothing to go over.
     while s.refills.is_due() {
         let i = s.refills.first_id() as usize;
         let v = &s.table.servers[i];
@@ -171,6 +172,7 @@ fn handle_arrivals(server: &Server, e: &mut Entry) -> u32
 {
     e.arrivals.tick();
     let mut arrived = 0;
+    // As the loop over the replenishments.
     while e.arrivals.is_due() {
         let j = e.arrivals.first_id() as usize;
         let t = server.tasks[j];

@@ -10,7 +10,6 @@ use lib.Dec.{leb}
 use lib.ListN.{length}
 use borrow.Author.Tests.{leb-true, le-leb}
 use Rattle.small.proofs.Tests.{both_left, both_right}
-use Rattle.small.proofs.Altered.{length_alter}
 use Rattle.queue.specs.Limits.{longest}
 use Rattle.queue.specs.Row.{events_of}
 use Rattle.queue.specs.Steps.{first_cell, due_step, tick_step}
@@ -90,11 +89,6 @@ module _ (s : Server) (e : Entry) where
         let l : arrived_loads s (due_ids (events_of e.arrivals)) e.loads ≡ arrived_loads s (due_ids (events_of (one_arrival s e).arrivals)) (one_arrival s e).loads =
         rw arrival_turned.first in
         λ i. record { loads = l i; arrivals = came_more (task_delay s) e.arrivals arrival_turned i; budget = e.budget }
-
-  -- there are as many loads as before
-  pub arrival_length : length (one_arrival s e).loads ≡ length e.loads
-  unfolding one_arrival
-  arrival_length = length_alter _ e.loads (first_cell e.arrivals).id
 
   -- at most 8 are due
   pub arrivals_few : Clocked s e → (due_turn s e).handled ≤ entries

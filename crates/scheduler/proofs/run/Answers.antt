@@ -23,12 +23,6 @@ loop-i-init c = record {
   answers = refl;
 }
 
-pub one_tick-requires : goal.one_tick-requires
-one_tick-requires c = c.loop-i.invariant.ticking
-
-pub bounds-answers-i : goal.bounds-answers-i
-bounds-answers-i c = omega (arith, c.min-count.ensures, c.loop-i-test.true)
-
 pub loop-i-preserved : goal.loop-i-preserved
 loop-i-preserved c =
     let i = c.loop-i.invariant in

@@ -86,10 +86,6 @@ returns-then-is_periodic c =
       ← rw (read h.Else-s-i) at c.if-is_periodic.ensures,
     )
 
-pub bounds-s-i-2 : goal.bounds-s-i-2
-bounds-s-i-2 c =
-    within (goal.at.bounds-s-i-2 c).Else-s-i
-
 pub bounds-e-j : goal.bounds-e-j
 bounds-e-j c =
     (here (goal.at.bounds-e-j c).Else-v-j).task

@@ -1,53 +1,18 @@
--- A list whose first n entries pass one test and whose others pass another (`usedb`): walked by the index, what it says of each entry, and what one entry changed
--- keeps of it. Over any elements and any two tests. Assumes nothing.
-use mathlib.Core.Path.{◌≡◌, refl, sym, ap, ◌∙◌}
-use mathlib.Core.Bool.{Bool, true, false}
+-- A list whose first n entries pass one test and whose others pass another (`usedb`): what it says of each entry, and what one entry changed keeps of it.
+-- Over any elements and any two tests. Assumes nothing.
+use mathlib.Core.Path.{◌≡◌, refl, ap}
+use mathlib.Core.Bool.{Bool, true}
 use mathlib.Core.List.{List, [], ◌∷◌}
-use Prim.Native.Nat.{ℕ, zero, suc, ◌+◌, ◌-◌, ◌≤◌, ◌<◌}
-use native.Mathlib.Numerals.{add-one}
+use Prim.Native.Nat.{ℕ, zero, suc, ◌≤◌, ◌<◌}
 use native.Mathlib.Omega.{arith}
-use lib.Dec.{ltb}
-use lib.ListN.{length, get_or, drop, drop_of_length-le}
-use lib.Seq.{drop-cons}
-use borrow.Author.Tests.{ltb-true, ltb-false}
-use Rattle.small.specs.Small.{pick, both, alter, usedb, All}
+use lib.ListN.{length, get_or}
+use Rattle.small.specs.Small.{both, alter, usedb, All}
 use Rattle.small.proofs.Tests.{both_left, both_right}
 
 -- with no entry in use the first test is not asked
 pub used_none : {A : Type 0} (good other none : A → Bool) (xs : List A) → usedb good none xs 0 ≡ usedb other none xs 0
 used_none good other none [] = refl
 used_none good other none (x ∷ xs) = ap (both (none x)) (used_none good other none xs)
-
--- a loop begins at 0
-pub used_start : {A : Type 0} (good none : A → Bool) (xs : List A) (n : ℕ) → usedb good none xs n ≡ usedb good none (drop 0 xs) (n - 0)
-used_start good none xs n = let e : n - 0 ≡ n = omega arith in rw e
-
-module _ {A : Type 0} (good none : A → Bool) (xs : List A) (n i : ℕ) (d : A) where
-  -- the entry at i passes its test, and so do those behind it
-  pub used_step : i < length xs → usedb good none (drop i xs) (n - i) ≡ both (pick (ltb i n) (good (get_or xs i d)) (none (get_or xs i d))) (usedb good none (drop (i + 1) xs) (n - (i + 1)))
-  used_step h = rw (drop-cons xs i d, add-one) (go (ltb i n) refl)
-    where
-      go : (b : Bool) → ltb i n ≡ b → usedb good none (get_or xs i d ∷ drop (suc i) xs) (n - i) ≡ both (pick b (good (get_or xs i d)) (none (get_or xs i d))) (usedb good none (drop (suc i) xs) (n - suc i))
-      go true p =
-          let l : i < n = ltb-true i n p in
-          let e : n - i ≡ suc (n - suc i) = omega arith in
-          rw e
-      go false p =
-          let l : n ≤ i = ltb-false i n p in
-          let e : n - i ≡ 0 = omega arith in
-          let f : n - suc i ≡ 0 = omega arith in
-          rw (e, f)
-
-  -- a loop that has passed every entry before i: the one at i fails, it passes, or there is none
-  module _ {b : Bool} (is : b ≡ usedb good none (drop i xs) (n - i)) where
-    pub used_stop : i < length xs → pick (ltb i n) (good (get_or xs i d)) (none (get_or xs i d)) ≡ false → false ≡ b
-    used_stop h e = sym (is ∙ used_step h ∙ simp e)
-
-    pub used_go : i < length xs → pick (ltb i n) (good (get_or xs i d)) (none (get_or xs i d)) ≡ true → b ≡ usedb good none (drop (i + 1) xs) (n - (i + 1))
-    used_go h e = is ∙ used_step h ∙ simp e
-
-    pub used_end : length xs ≤ i → true ≡ b
-    used_end h = sym (is ∙ rw drop_of_length-le)
 
 -- what the test says of each entry; d is what a place past the end would hold
 pub record Each {A : Type 0} (good none : A → Bool) (d : A) (xs : List A) (n : ℕ) : Type 0 where

@@ -28,6 +28,7 @@ pub trait Field: Copy {
     ghost one: { (x y : Self) → value x ≡ value y → x ≡ y };
 }
 
+// An impl for each width, which a macro cannot write: in a macro there is no ghost member.
 impl Field for u8 {
     ghost WIDTH = { 1 };
 

@@ -64,7 +64,7 @@ pub fn read(s: &[u8]) -> Result<Message, Reason>
     })
 }
 
-// Writes a message of a kind with any two bytes.
+// Writes a message of a kind with any two bytes. The kind is a byte and no `Kind`: C hands in any, and 17 refuses one that is none (`write_17`).
 #[tactic(auto, using(field::proofs::Fields::over_start))]
 pub fn write(kind: u8, a: u8, b: u8, out: &mut [u8]) -> Result<usize, Reason>
     ensures answer { written_by result ≡ written (write_refusal kind (length out.old)) (raw_bytes kind a b) }

@@ -79,7 +79,7 @@ module _ {A : Type 0} {checks : ℕ → List ℕ → List Check} {gives : List �
       rw (s.left, e, first_append (checks at rest) _ (numbered at rest))
 
   -- it is read
-  pub so_far_more : n ≤ most → i < n → first_of (checks at rest) ≡ none → SoFar checks gives span z most k bs n (set xs i (gives rest)) (at + span rest) (drop (span rest) rest) (i + 1)
+  pub so_far_more : n ≤ most → i < n → none ≡ first_of (checks at rest) → SoFar checks gives span z most k bs n (set xs i (gives rest)) (at + span rest) (drop (span rest) rest) (i + 1)
   so_far_more m h o =
       let ys = all_given gives span i bs in
       let x = gives rest in
@@ -93,12 +93,12 @@ module _ {A : Type 0} {checks : ℕ → List ℕ → List Check} {gives : List �
             ∙ ap (λ (j : ℕ). set (padded z most ys) j x) (sym (length_given checks gives span i bs))
             ∙ padded_push z most ys x (rw (length_given checks gives span i bs) (omega arith))
             ∙ ap (padded z most) (sym last);
-        left = left_is h ∙ rw o;
+        left = left_is h ∙ rw (← o);
       }
 
   -- it is refused
-  pub so_far_refused : i < n → (first_of (checks at rest)).number ≢ 0 → first_of (all_checks checks span n k bs) ≡ first_of (checks at rest)
-  so_far_refused h o = left_is h ∙ rw (ne_eqb _ 0 o)
+  pub so_far_refused : i < n → (f : Fault) → refusal_at f ≡ first_of (checks at rest) → first_of (all_checks checks span n k bs) ≡ refusal_at f
+  so_far_refused h f e = left_is h ∙ rw (← e, ne_eqb _ 0 (some_number f.reason))
 
 -- THE RECORDS OF A SETUP, for any longest distance D and any most work W
 

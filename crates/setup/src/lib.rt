@@ -12,7 +12,6 @@ ghost use Rattle.field.specs.Field.{byte_of, field_of, big, over};
 ghost use Rattle.field.specs.Write.{written, written_by};
 ghost use Rattle.queue.specs.Limits.{longest};
 ghost use Rattle.table.specs.Limits.{most_work, entries};
-ghost use Rattle.table.specs.Table.{zero_task, zero_server};
 ghost use Rattle.table.specs.Sound.{rangeb, tableb};
 ghost use Rattle.setup.specs.Layout.{task_bytes, server_bytes, bytes_of};
 ghost use Rattle.setup.specs.Read.{task_size, task_checks, task_of, release_of, head_size, head_checks, server_checks, server_of, server_size, start_checks, reading_by, read_of};
@@ -41,7 +40,7 @@ pub fn read(s: &[u8]) -> Result<Table, Fault>
 {
     let mut r = Reader { rest: s, at: 0 };
     let count = r.start()?;
-    let servers = r.records(count)?;
+    let servers = r.records(count, Server::zero())?;
     if !r.rest.is_empty() {
         return Err(Reason::BytesLeft.at(r.at));
     }
@@ -103,7 +102,7 @@ impl Reader<'_> {
         })
     }
 
-    /// A task's T and O, with the number of its release: on arrival both are 0.
+    /// A task's T and O, of the release whose number the file has: on arrival both are 0. This is where the byte becomes a `Release`.
     #[tactic(auto, unfolding(crate::specs::Moves::times_checks))]
     fn release(&mut self, number: u32) -> Result<Release, Fault>
         requires { 8 ≤ length self.old.rest.now }
@@ -177,16 +176,10 @@ trait Record: Copy {
     /// How many bytes it takes of those from its first on.
     ghost span: { List ℕ → ℕ };
 
-    /// What stands in an entry that is not in use.
-    ghost empty: { Self };
-
     /// The bytes that are written, of a record that can be.
     ghost bytes: { Self → List ℕ };
 
     ghost fit: { Self → Type 0 };
-
-    fn zero() -> Self
-        ensures { result ≡ empty };
 
     fn read(r: &mut Reader) -> Result<Self, Fault>
         ensures refusal { fault_in result ≡ first_of (checks r.old.at r.old.rest.now) }
@@ -207,14 +200,14 @@ trait Record: Copy {
 
 impl Reader<'_> {
     /// So many records; the others of the array are zero.
-    fn records<R: Record>(&mut self, n: usize) -> Result<[R; Table::ENTRIES], Fault>
+    fn records<R: Record>(&mut self, n: usize, zero: R) -> Result<[R; Table::ENTRIES], Fault>
         requires { n ≤ entries }
         ensures refusal { fault_in result ≡ first_of (all_checks R.checks R.span n self.old.at self.old.rest.now) }
-        ensures value { IfOk result (λ xs. xs ≡ padded R.empty entries (all_given R.gives R.span n self.old.rest.now)) }
+        ensures value { IfOk result (λ xs. xs ≡ padded zero entries (all_given R.gives R.span n self.old.rest.now)) }
         ensures at { OnOk result (self.new.at ≡ self.old.at + all_size R.span n self.old.rest.now) }
         ensures rest { OnOk result (self.new.rest.now ≡ drop (all_size R.span n self.old.rest.now) self.old.rest.now) }
     {
-        let mut all = [R::zero(); Table::ENTRIES];
+        let mut all = [zero; Table::ENTRIES];
         for i in 0..n {
             all[i] = R::read(self)?;
         }
@@ -229,17 +222,11 @@ impl Record for Task {
 
     ghost span = { λ bs. task_size };
 
-    ghost empty = { zero_task };
-
     ghost bytes = { task_bytes };
 
     ghost fit = { λ t. ⊤ };
 
     ghost all_numbered = { task_numbered longest most_work };
-
-    fn zero() -> Task {
-        Task::zero()
-    }
 
     #[tactic(auto, unfolding(crate::specs::Read::task_of, crate::specs::Read::task_checks, crate::specs::Moves::times_checks))]
     fn read(r: &mut Reader) -> Result<Task, Fault> {
@@ -269,21 +256,15 @@ impl Record for Server {
 
     ghost span = { server_size };
 
-    ghost empty = { zero_server };
-
     ghost bytes = { server_bytes };
 
     ghost fit = { λ s. s.count ≤ entries };
 
     ghost all_numbered = { server_numbered longest most_work };
 
-    fn zero() -> Server {
-        Server::zero()
-    }
-
     fn read(r: &mut Reader) -> Result<Server, Fault> {
         let mut server = r.head()?;
-        server.tasks = r.records(server.count)?;
+        server.tasks = r.records(server.count, Task::zero())?;
         Ok(server)
     }
 

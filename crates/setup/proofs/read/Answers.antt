@@ -35,4 +35,4 @@ returns c =
     let e = c.in_ok-count.ensures in
     let f = c.in_ok-servers.ensures in
     let l : length c.records.new.self.rest.now ≡ 0 = eqb-true _ 0 (sym c.if-not-is_empty.ensures) in
-    read_is longest most_work c.args.s.now _ _ e.value e.rest e.refusal (rw e.at at f.refusal) _ _ (rw e.at at f.at) f.rest l _ f.value
+    read_is longest most_work c.args.s.now _ _ e.value e.rest e.refusal (rw e.at at f.refusal) _ _ (rw e.at at f.at) f.rest l _ (rw c.zero.ensures at f.value)

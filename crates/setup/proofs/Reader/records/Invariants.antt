@@ -7,4 +7,4 @@ abbrev pub invariant-loop-i : goal.invariant-loop-i
 invariant-loop-i g l =
     let r = g.R.Record in
     let s = l.fn.self in
-    SoFar r.checks r.gives r.span r.empty entries s.at s.rest.now l.n l.all l.self.at l.self.rest.now l.i
+    SoFar r.checks r.gives r.span l.fn.zero entries s.at s.rest.now l.n l.all l.self.at l.self.rest.now l.i

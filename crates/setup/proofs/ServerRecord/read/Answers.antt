@@ -36,7 +36,7 @@ pub returns-clause-value : goal.returns-clause-value
 returns-clause-value c =
     let r = c.args.r.now in
     let e = c.in_ok-server.ensures in
-    server_is longest most_work r.at r.rest.now _ _ (ap (λ (s : Server). s.count) e.value) e.rest c.in_ok-server.server _ e.value c.in_ok-server-2.ensures.value
+    server_is longest most_work r.at r.rest.now _ _ (ap (λ (s : Server). s.count) e.value) e.rest c.in_ok-server.server _ e.value (rw c.zero.ensures at c.in_ok-server-2.ensures.value)
 
 pub returns-clause-at : goal.returns-clause-at
 returns-clause-at c =

@@ -78,7 +78,7 @@ def defines():
 def number_faults():
     """The header's refusals are those of crate refusal, and its other numbers the model's."""
     text = (ROOT / "crates" / "refusal" / "src" / "lib.rt").read_text()
-    due = {name: int(value) for name, value in re.findall(r"pub const (\w+): u8 = (\d+);", text)}
+    due = {re.sub(r"(?<=[a-z])(?=[A-Z])", "_", name).upper(): int(value) for name, value in re.findall(r"^    (\w+) = (\d+),$", text, re.M)}
     longest = len(cases.setup(cases.FULL))
     due |= {"CELLS": model.CELLS, "ENTRIES": model.ENTRIES, "FILLER": model.FILLER, "LARGEST_GAP": model.LARGEST_GAP, "LONGEST": model.LONGEST,
             "MOST_WORK": model.MOST_WORK, "MOST_LOST": model.MOST_LOST, "LONGEST_SETUP": longest, "MESSAGE_BYTES": model.MESSAGE, "RUN": model.RUN,

@@ -51,34 +51,6 @@ pub record FullState (s : State) : Type 0 where
   pub count : length s.entries ≡ entries
   pub entries : All FullEntry s.entries
 
--- what the code knows of an array of servers, and of one of entries
-servers_full : (ss : List Server) (us : List Val) → shadow (owned (server.the_row).Denot (server.the_row).own_val ss us)
-    → All FullServer ss
-servers_full [] us k = tt
-servers_full (s ∷ ss) [] k = absurd k
-servers_full (s ∷ ss) (u ∷ us) k = (record { tasks = k.0.1.1.0.1.0.1 }, servers_full ss us k.1)
-
-entries_full : (es : List Entry) (us : List Val) → shadow (owned (entry.the_row).Denot (entry.the_row).own_val es us)
-    → All FullEntry es
-entries_full [] us k = tt
-entries_full (e ∷ es) [] k = absurd k
-entries_full (e ∷ es) (u ∷ us) k = (
-  record { loads = k.0.1.1.0.1.0.1; cells = k.0.1.1.1.0.1.1.0.1.0.1 },
-  entries_full es us k.1,
-)
-
--- every table and every state that the code holds is full: a parameter's `.well_formed` is what it knows
-pub table_full : (t : Table) (vs : List Val) → shadow ((row table.the_type).own_val t vs) → FullTable t
-table_full t vs k = record { count = k.1.1.0.1.0.1; servers = servers_full t.servers _ k.1.1.0.1.1 }
-
-pub state_full : (s : State) (vs : List Val) → shadow ((row state.the_type).own_val s vs) → FullState s
-state_full s vs k = record {
-  table = record { count = k.1.1.1.0.1.1.0.1.0.1; servers = servers_full s.table.servers _ k.1.1.1.0.1.1.0.1.1 };
-  cells = k.1.1.1.1.0.1.1.0.1.0.1;
-  count = k.1.1.0.1.0.1;
-  entries = entries_full s.entries _ k.1.1.0.1.1;
-}
-
 -- A THING THAT IS READ IS FULL, whatever the words
 
 many_all : {A : Type 0} (P : A → Type 0) (size : ℕ) (g : List ℕ → A) → ((ws : List ℕ) → P (g ws)) → (n : ℕ) (ws : List ℕ) → All P (many_in size g n ws)
@@ -161,9 +133,3 @@ entries_sizes (e ∷ es) a = (entry_length e a.0, entries_sizes es a.1)
 pub table_length : (t : Table) → FullTable t → length (table_words t) ≡ table_size
 unfolding table_words
 table_length t h = omega (arith, each_length server_words server_size t.servers (servers_sizes t.servers h.servers), h.count)
-
-pub state_length : (s : State) → FullState s → length (state_words s) ≡ state_size
-unfolding state_words
-state_length s h =
-    let last = each_length entry_words entry_size s.entries (entries_sizes s.entries h.entries) in
-    simp length-append (omega (arith, table_length s.table h.table, queue_length s.refills h.cells, last, h.count))

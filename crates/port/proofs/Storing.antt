@@ -28,15 +28,6 @@ use Rattle.port.specs.Layout.{word_limit, queue_size}
 use Rattle.port.specs.Words.{cell_word, queue_words, QueueFits}
 use Rattle.port.specs.Exports.{held_after}
 
--- ACCEPTED OR REFUSED: x is the answer's refusal, r the definition's
-
-module _ (x r : Refusal) (e : x ≡ r) (new old : List ℕ) where
-  pub held_new : x.number ≡ 0 → held_after r new old ≡ new
-  held_new h = rw (← e, h)
-
-  pub held_old : (x.number ≡ 0 → ⊥) → held_after r new old ≡ old
-  held_old h = rw (← e, ne_eqb _ _ h)
-
 -- READ AGAIN: behind a call that hands x back, the memory is read as x where what it stores is, and, where it is refused, what the memory held
 pub held_again : {A : Type 0} (read : List ℕ → A) (r : Refusal) (new old : List ℕ) (x : A) → (r.number ≡ 0 → read new ≡ x) → (r.number ≢ 0 → read old ≡ x)
     → read (held_after r new old) ≡ x
@@ -49,9 +40,6 @@ held_again read r new old x accepted refused = go (eqb r.number 0) refl
 -- a reason's number is above 0
 pub some_reason : (r : Reason) → number_of r ≢ 0
 some_reason r h = let e : ◌≡◌ {A = Result ⊤ Reason} (Err r) (Ok tt) = refusal_in_one (Err r) (Ok tt) λ i. record { number = h i; place = 0 } in cc
-
-pub number_tested : (r : Reason) → eqb (number_of r) 0 ≡ false
-number_tested r = ne_eqb (number_of r) 0 (some_reason r)
 
 -- QUEUES
 

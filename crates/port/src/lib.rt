@@ -1,6 +1,7 @@
-// The library for a kernel in C: include/ribascenzo.h declares it. A queue, a table or a state is held in words at fixed places (words.rt). A call reads
-// them, does what the by-value call does, and stores what comes of it; a refused call stores nothing.
-#![tactic(auto, using(crate::proofs::Storing::number_tested))]
+// The library for a kernel in C: include/ribascenzo.h declares it, and so names, signatures and the arrays of words that answers are stored to are C's. A queue,
+// a table or a state is held in words at fixed places (words.rt). A call reads them, does what the call on the value does, and stores what comes of it; a
+// refused call stores nothing.
+#![tactic(auto)]
 
 mod words;
 
@@ -313,7 +314,7 @@ fn load_of(s: &[u32; STATE], server: u8, task: u8) -> Result<Load, Reason>
     Ok(state.entries[i].loads[j])
 }
 
-// THE WORDS OF AN ANSWER'S CASES
+// THE WORDS OF AN ANSWER, one function for each type: neither the type nor an array is this crate's, so an impl of From is not this crate's to write.
 
 fn answer_words(a: Answer) -> [u32; 4]
     ensures { result ≡ answer_words a.choice a.handled }

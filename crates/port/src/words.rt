@@ -82,7 +82,7 @@ fn put_all<T: Words, const N: usize>(all: &[T; N], w: &mut [u32])
     }
 }
 
-// Words are the things of one word each that an answer has.
+// The words of an answer, as the exports store them.
 impl<const N: usize> Words for [u32; N] {
     ghost SIZE = { N };
 
@@ -226,7 +226,7 @@ impl Words for Entry {
 
 // TABLES: the number of servers, then each server: its kind, the number of its tasks, P, C, then each task: its release (0 or 1), E, T, O
 
-#[tactic(auto, unfolding(crate::specs::Words::task_in))]
+#[tactic(auto, unfolding(crate::specs::Words::task_in, crate::specs::Words::release_in))]
 impl Words for Task {
     ghost SIZE = { task_size };
 
@@ -241,30 +241,23 @@ impl Words for Task {
     fn read(w: &[u32]) -> Task {
         Task {
             work: Served(w[1]),
-            release: release_in(w[0], w[2], w[3]),
+            release: match (w[0], w[2], w[3]) {
+                (1, period, offset) => Release::Periodic {
+                    period: Distance(period),
+                    offset: Distance(offset),
+                },
+                (0, 0, 0) => Release::OnArrival,
+                _ => Release::Periodic {
+                    period: Distance(0),
+                    offset: Distance(0),
+                },
+            },
         }
     }
 
     fn put(&self, w: &mut [u32]) {
         let r = self.release;
         w.copy_from_slice(&[r.number() as u32, self.work.0, r.period().0, r.offset().0]);
-    }
-}
-
-#[tactic(auto, unfolding(crate::specs::Words::release_in))]
-fn release_in(release: u32, period: u32, offset: u32) -> Release
-    ensures { result ≡ release_in release period offset }
-{
-    match (release, period, offset) {
-        (1, _, _) => Release::Periodic {
-            period: Distance(period),
-            offset: Distance(offset),
-        },
-        (0, 0, 0) => Release::OnArrival,
-        _ => Release::Periodic {
-            period: Distance(0),
-            offset: Distance(0),
-        },
     }
 }
 

@@ -2,20 +2,16 @@
 // value that no sound one has, so that a call on them is refused with 31.
 ghost use Rattle.std.specs.Prelude.{◌≡◌, [], ◌∷◌, ◌+◌, ◌*◌, ◌≤◌, ◌<◌, ℕ, List, length, take, drop};
 ghost use Rattle.small.specs.Small.{each, All};
-ghost use Rattle.queue.specs.Limits.{longest};
 ghost use Rattle.queue.specs.declared.Cell.{Cell};
 ghost use Rattle.queue.specs.declared.Queue.{Queue};
-ghost use Rattle.table.specs.Limits.{most_work};
-ghost use Rattle.table.specs.Sound.{tableb};
 ghost use Rattle.table.specs.declared.Task.{Task};
 ghost use Rattle.table.specs.declared.Server.{Server};
 ghost use Rattle.table.specs.declared.Table.{Table};
-ghost use Rattle.state.specs.Sound.{stateb};
 ghost use Rattle.state.specs.declared.Load.{Load};
 ghost use Rattle.state.specs.declared.Entry.{Entry};
 ghost use Rattle.state.specs.declared.State.{State};
 ghost use Rattle.port.specs.Words.{word, many_in, cell_in, cell_word, queue_in, queue_words, load_in, load_words, entry_in, entry_words};
-ghost use Rattle.port.specs.Words.{release_in, task_in, task_words, kind_in, server_in, server_words, table_in, table_words, state_in, state_words};
+ghost use Rattle.port.specs.Words.{task_in, task_words, server_in, server_words, table_in, table_words, state_in, state_words};
 ghost use Rattle.port.specs.Words.{QueueFits, EntryFits, ServerFits, TableFits, StateFits};
 ghost use Rattle.port.specs.Layout.{queue_size, load_size, entry_size, task_size, server_size, table_size, state_size};
 
@@ -38,10 +34,13 @@ const ENTRIES: usize = TABLE + QUEUE;
 
 /// A thing of a fixed number of words: what words hold, whatever stands behind them, and the words that a thing is stored as.
 pub(crate) trait Words: Copy {
+    // how many words
     ghost SIZE: { ℕ };
 
+    // what words hold
     ghost held: { List ℕ → Self };
 
+    // the words of a thing, and which things have words: those whose counts are below what a word can hold
     ghost words: { Self → List ℕ };
 
     ghost fits: { Self → Type 0 };
@@ -122,7 +121,10 @@ impl Words for Cell {
     fn read(w: &[u32]) -> Cell {
         let word = w[0];
         if 16_777_215 < word {
-            return Cell { id: 255, gap: 0 };
+            return Cell {
+                id: Queue::FILLER,
+                gap: 0,
+            };
         }
         Cell {
             id: (word / 65_536) as u8,
@@ -176,17 +178,15 @@ impl Words for Load {
     const SIZE: usize = 2;
 
     fn read(w: &[u32]) -> Load {
-        let pending = w[0];
-        let lost = w[1];
-        if 65_535 < lost {
+        let Ok(lost) = u16::try_from(w[1]) else {
             return Load {
-                pending: Served(4_294_967_295),
+                pending: Served(u32::MAX),
                 lost: 0,
             };
-        }
+        };
         Load {
-            pending: Served(pending),
-            lost: lost as u16,
+            pending: Served(w[0]),
+            lost,
         }
     }
 
@@ -295,6 +295,7 @@ impl Words for Server {
     }
 }
 
+// As a queue but for the fields' names: what the two could share is one line of each.
 #[tactic(auto, unfolding(crate::specs::Words::table_in, crate::specs::Words::table_words))]
 impl Words for Table {
     ghost SIZE = { table_size };

@@ -1,21 +1,17 @@
 -- Things of so many words each, one behind the other: how many words they take, what reads back, and what a loop that reads or writes them one by one has done
 -- before the one at i. Over any kind of thing, its size in words, its reader g and its words f. Assumes nothing.
 use mathlib.Core.Path.{◌≡◌, refl, sym, ap, ◌∙◌}
-use mathlib.Core.List.{List, [], ◌∷◌, ◌++◌, append_assoc, append-nil}
+use mathlib.Core.List.{List, [], ◌∷◌, ◌++◌, append_assoc}
 use Prim.Native.Nat.{ℕ, zero, suc, ◌+◌, ◌-◌, ◌*◌, ◌≤◌, ◌<◌}
-use native.Mathlib.Nat.{add-zero, mul-zero, mul-suc, mul-le-mul_left, add_comm, not-suc-le-zero}
-use native.Mathlib.Numerals.{add-one}
+use native.Mathlib.Nat.{mul-zero, mul-suc, add_comm, not-suc-le-zero}
 use native.Mathlib.Omega.{arith}
-use lib.ListN.{length, take, drop, get_or, set, replicate, length-append, length-drop, length-set, length-replicate}
+use lib.ListN.{length, take, drop, get_or, length-append, length-drop}
 use borrow.Rule.Slice.PartMut.{put_mid}
-use lib.Seq.{take_at, take_all, take-add, take-suc-set, drop_at, drop-length, drop-drop, get_or-drop, length-take-le}
+use lib.Seq.{take_at, take_all, take-add, drop_at, drop-drop}
 use Rattle.std.proofs.lemmas.List.{ext_get_or}
-use Rattle.small.proofs.All.{all_at, all_first}
 use Rattle.small.specs.Small.{each, All}
-use Rattle.small.proofs.Each.{Sizes, each_more, each_length}
-use Rattle.field.specs.Field.{over}
-use Rattle.field.proofs.Fields.{over_over, over_length, over_nil, over_start}
-use Rattle.port.specs.Words.{word, many_in}
+use Rattle.small.proofs.Each.{each_more}
+use Rattle.port.specs.Words.{many_in}
 
 -- the place of the one behind the first, of the one at i + 1
 next_place : (size i : ℕ) → size * suc i ≡ size + size * i

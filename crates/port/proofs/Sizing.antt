@@ -5,10 +5,6 @@ use Prim.Native.Nat.{ℕ, zero, suc, ◌+◌, ◌*◌, ◌<◌}
 use native.Mathlib.Omega.{arith}
 use lib.ListN.{length, drop, get_or, length-append}
 use lib.Seq.{take-length}
-use mir.Val.{Val}
-use denote.Array.{each as owned}
-use denote.Shadow.{shadow}
-use denote.Struct.Declared.{row}
 use Rattle.small.proofs.All.{all_take, all_at}
 use Rattle.small.specs.Small.{each, All}
 use Rattle.small.proofs.Each.{Sizes, sizes_of, each_length}
@@ -18,17 +14,13 @@ use Rattle.table.specs.Table.{zero_server}
 use Rattle.table.specs.Meaning.{Sized}
 use Rattle.table.specs.declared.Server.{Server}
 use Rattle.table.specs.declared.Table.{Table}
-use Rattle.table.specs.contracts.Server as server
-use Rattle.table.specs.contracts.Table as table
 use Rattle.state.specs.State.{zero_entry}
 use Rattle.state.specs.Meaning.{SizedState}
 use Rattle.state.specs.declared.Entry.{Entry}
 use Rattle.state.specs.declared.State.{State}
-use Rattle.state.specs.contracts.Entry as entry
-use Rattle.state.specs.contracts.State as state
-use Rattle.port.specs.Layout.{queue_size, load_size, entry_size, task_size, server_size, table_size, state_size}
+use Rattle.port.specs.Layout.{queue_size, load_size, entry_size, task_size, server_size, table_size}
 use Rattle.port.specs.Words.{word, many_in, cell_in, queue_in, load_in, entry_in, task_in, server_in, table_in, state_in}
-use Rattle.port.specs.Words.{load_words, entry_words, task_words, server_words, table_words, state_words}
+use Rattle.port.specs.Words.{load_words, entry_words, task_words, server_words, table_words}
 use Rattle.port.proofs.Many.{many_count}
 use Rattle.port.proofs.Storing.{queue_length}
 

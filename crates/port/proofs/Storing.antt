@@ -8,7 +8,7 @@ use Prim.Native.Nat.{ℕ, ◌<◌}
 use native.Mathlib.Omega.{arith}
 use lib.Dec.{eqb}
 use lib.ListN.{length}
-use borrow.Author.Tests.{ne_eqb, eqb-true, eqb-false}
+use borrow.Author.Tests.{eqb-true, eqb-false}
 use Rattle.small.specs.Small.{pick}
 use Rattle.small.proofs.Each.{sizes_of, each_length}
 use Rattle.std.specs.Prelude.{Result, Ok, Err, IfOk, ⊤}

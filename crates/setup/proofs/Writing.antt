@@ -1,6 +1,6 @@
 -- Laws of the writer: how many bytes the parts of a table take, that parts written one behind the other are written as one, and what a table that the code
 -- holds gives the writer. Assumes nothing.
-use mathlib.Core.Path.{◌≡◌, refl, sym}
+use mathlib.Core.Path.{◌≡◌, refl, sym, ap, ◌∙◌}
 use mathlib.Core.Bool.{Bool, true}
 use mathlib.Core.List.{List, [], ◌∷◌, ◌++◌}
 use Prim.Native.Nat.{ℕ, zero, suc, ◌+◌, ◌*◌, ◌≤◌, ◌<◌}
@@ -38,21 +38,26 @@ module _ {A : Type 0} (f : A → List ℕ) (xs : List A) (at : ℕ) (buf : List 
   pub done_start : Done f xs at buf 0 at buf
   done_start = record { place = sym (add-zero at); bytes = sym (over_nil at buf (omega arith)) }
 
-  -- where the buffer has room for the bytes of all, it has room for those of the one at i, and with them one more is written
-  module _ {i next : ℕ} {out : List ℕ} (before : i < length xs) (d : Done f xs at buf i next out) (z : A) where
+  -- where the buffer has room for the bytes of all, it has room for those of the one at i, x, and with them one more is written
+  module _ {i next : ℕ} {out : List ℕ} (before : i < length xs) (d : Done f xs at buf i next out) (x : A) (is : x ≡ get_or xs i x) where
     all_room : at + length (each f (take (length xs) xs)) ≤ length buf
     all_room = rw take-length room
 
-    fits : next + length (f (get_or xs i z)) ≤ length buf
-    fits = omega (arith, all_room, d.place, length_more f xs i z (omega arith), length_fewer f xs (i + 1) (length xs) (omega arith))
+    size : length (f x) ≡ length (f (get_or xs i x))
+    size = ap (λ (y : A). length (f y)) is
 
-    pub done_room : next + length (f (get_or xs i z)) ≤ length out
+    fits : next + length (f x) ≤ length buf
+    fits = omega (arith, all_room, size, d.place, length_more f xs i x (omega arith), length_fewer f xs (i + 1) (length xs) (omega arith))
+
+    pub done_room : next + length (f x) ≤ length out
     done_room = rw (d.bytes, over_length) fits
 
-    pub done_more : (next' : ℕ) (out' : List ℕ) → next' ≡ next + length (f (get_or xs i z)) → out' ≡ over next (f (get_or xs i z)) out → Done f xs at buf (i + 1) next' out'
+    pub done_more : (next' : ℕ) (out' : List ℕ) → next' ≡ next + length (f x) → out' ≡ over next (f x) out → Done f xs at buf (i + 1) next' out'
     done_more next' out' p b = record {
-      place = omega (arith, d.place, length_more f xs i z (omega arith));
-      bytes = rw (each_more f xs i z (omega arith)) (further at next _ _ buf out out' d.bytes b d.place fits);
+      place = omega (arith, d.place, size, length_more f xs i x (omega arith));
+      bytes =
+          rw (each_more f xs i x (omega arith))
+          (further at next _ _ buf out out' d.bytes (b ∙ ap (λ (y : A). over next (f y) out) is) d.place (omega (arith, fits, size)));
     }
 
 -- LENGTHS

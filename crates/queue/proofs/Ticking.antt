@@ -9,7 +9,7 @@ use native.Mathlib.Nat.{zero-mul, suc-mul}
 use Rattle.std.specs.List.{copy_within}
 use lib.Dec.{eqb}
 use lib.ListN.{length, get_or, take, drop, set, replicate, length-drop}
-use lib.Seq.{length-take-le, get_or-append-add, get_or-drop, drop-cons, set_at}
+use lib.Seq.{length-take-le, drop-cons, set_at}
 use borrow.Author.Tests.{eq-eqb, ne_eqb, lt-ltb, le-ltb, le-leb, eqb-true, eqb-false}
 use Rattle.small.specs.Small.{pick, both, padded}
 use Rattle.queue.specs.Limits.{cell_count, filler}
@@ -25,12 +25,7 @@ use Rattle.queue.proofs.Normal.{Proper, sorted_events, proper_events, chain_of_l
 use Rattle.queue.proofs.SoundLaws.{Sound}
 use Rattle.queue.proofs.Events.{normal_earlier, not_due, due_later, due_first}
 
--- ON ARRAYS: what the stores of a loop come to
-
--- the first element changed in place
-pub less_set : (xs : List Cell) → let c = get_or xs 0 (cell 0 0) in set xs 0 (cell c.id (c.gap - 1)) ≡ less_head xs
-less_set [] = refl
-less_set (c ∷ cs) = refl
+-- ON ARRAYS: what moves and stores come to
 
 -- the first j elements moved one place down
 pub copied_down : (xs : List Cell) (j n : ℕ) → n ≡ j + 1 → copy_within xs 1 n 0 ≡ down j xs
@@ -38,12 +33,6 @@ copied_down xs j n e =
     let a : n - 1 ≡ j = omega arith in
     let b : 0 + j ≡ j = omega arith in
     rw (a, b)
-
--- those from there on stand where they stood
-pub down_read : (xs : List Cell) (j : ℕ) → j + 1 < length xs → get_or (down j xs) (j + 1) (cell 0 0) ≡ get_or xs (j + 1) (cell 0 0)
-down_read xs j h =
-    let n : length (take j (drop 1 xs)) ≡ j = length-take-le j (drop 1 xs) (rw length-drop (omega arith)) in
-    rw n at (get_or-append-add (take j (drop 1 xs)) (drop j xs) 1 (cell 0 0) ∙ get_or-drop j xs 1 (cell 0 0))
 
 -- a store at the place that is left
 pub down_store : (xs : List Cell) (n : ℕ) (z : Cell) → n < length xs → set (down n xs) n z ≡ take n (drop 1 xs) ++ (z ∷ drop (n + 1) xs)

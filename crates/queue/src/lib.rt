@@ -78,6 +78,7 @@ impl Queue {
     // How many ids there are, the filler's included.
     const IDS: usize = 256;
 
+    #[tactic(auto, unfolding(crate::specs::Row::queue_of))]
     pub fn empty() -> Queue
         ensures { result ≡ queue_of [] }
     {
@@ -88,6 +89,7 @@ impl Queue {
     }
 
     // The cells in use; where the length is none of a row, all that there are.
+    #[tactic(auto, using(std::proofs::lemmas::List::take_min), unfolding(crate::specs::Row::cells_of))]
     fn row(&self) -> &[Cell]
         ensures cells { result.now ≡ cells_of self.now }
         ensures len { length result.now ≡ min self.now.len cell_count }
@@ -148,6 +150,7 @@ impl Queue {
     }
 
     // The event stands at that distance, behind all that are due at the same time.
+    #[tactic(auto, using(crate::proofs::Same::insert_step, crate::proofs::Walking::sought_there), unfolding(crate::specs::Calls::insert_of))]
     pub fn insert(&mut self, id: u8, delay: Distance) -> Result<(), Reason>
         ensures { changed_by result self.new ≡ insert_of max_gap longest self.old id delay.0 }
     {
@@ -183,6 +186,7 @@ impl Queue {
         Ok(())
     }
 
+    #[tactic(auto, unfolding(crate::specs::Calls::time_left_of))]
     pub fn time_left(&self, id: u8) -> Result<Distance, Reason>
         ensures { left_by result ≡ time_left_of max_gap longest self.now id }
     {
@@ -196,6 +200,7 @@ impl Queue {
     }
 
     // Every distance falls by 1.
+    #[tactic(auto, using(crate::proofs::Same::clock_step, crate::proofs::Same::clock_due), unfolding(crate::specs::Calls::clock_of))]
     pub fn clock(&mut self) -> Result<(), Reason>
         ensures { changed_by result self.new ≡ clock_of max_gap longest self.old }
     {
@@ -210,6 +215,7 @@ impl Queue {
     }
 
     // The first event at distance 0 is taken out.
+    #[tactic(auto, using(crate::proofs::Same::take_step, crate::proofs::Same::take_none), unfolding(crate::specs::Calls::take_of))]
     pub fn take(&mut self) -> Result<u8, Reason>
         ensures { taken_by result self.new ≡ take_of max_gap longest self.old }
     {
@@ -225,6 +231,7 @@ impl Queue {
     }
 
     // Every distance grows by 1.
+    #[tactic(auto, using(crate::proofs::SoundLaws::sound_is, crate::proofs::SoundLaws::sound_again, crate::proofs::Pushing::push_events, crate::proofs::Pushing::push_overfull, crate::proofs::Pushing::far_end), unfolding(crate::specs::Calls::push_back_of))]
     pub fn push_back(&mut self) -> Result<(), Reason>
         ensures { changed_by result self.new ≡ push_back_of max_gap longest self.old }
     {
@@ -263,6 +270,7 @@ impl Queue {
 }
 
 // A filler, or an event that is 1 to its reach away.
+#[tactic(auto, using(crate::proofs::Holding::ticks_at, crate::proofs::Holding::ticks_length))]
 fn in_reach(id: u8, at: u32, reach: &[Distance; Queue::HELD]) -> bool
     ensures { result ≡ pick (eqb id filler) true (both (ltb 0 at) (leb at (get_or (in_ticks reach.now) id 0))) }
 {
@@ -307,6 +315,7 @@ impl Walk {
     };
 
     // The walk past every cell of a row that is at most d away.
+    #[tactic(auto, using(crate::proofs::Walking::walked_none, crate::proofs::Walking::walked_pass, crate::proofs::Walking::pass_next, crate::proofs::Walking::pass_near, crate::proofs::Walking::place_pass))]
     fn within(row: &[Cell], d: u32) -> Walk
         requires { length row.now ≤ cell_count }
         ensures { Passed row.now d result }
@@ -321,6 +330,8 @@ impl Walk {
         w
     }
 
+    // The walk past one cell more.
+    #[tactic(auto, unfolding(crate::specs::Moves::pass_of))]
     fn past(self, c: Cell) -> Walk
         requires { (self.next < cell_count) × (self.at ≤ max_gap * cell_count) }
         ensures { result ≡ pass_of self c }
@@ -355,6 +366,7 @@ struct Found {
 }
 
 impl Queue {
+    // Where the event with this id stands; no event has a filler's.
     fn find(&self, id: u8) -> Option<Found>
         ensures { Sought (cells_of self.now) id result }
     {
@@ -424,6 +436,7 @@ impl Chain {
         gap: 0,
     };
 
+    #[tactic(auto, unfolding(crate::specs::Moves::chain_for))]
     fn of(gap: u32, id: u8) -> Chain
         ensures { result ≡ chain_for max_gap gap id }
     {
@@ -438,6 +451,7 @@ impl Chain {
 
 impl Queue {
     // In place of the cells from a place up to those behind the rest: a chain, and the rest's.
+    #[tactic(auto, using(crate::proofs::Moving::copied, crate::proofs::Moving::sets_before, crate::proofs::Moving::links_length), unfolding(crate::specs::Moves::spliced))]
     fn splice(&mut self, start: usize, own: Chain, rest: Rest)
         requires within { rest.behind ≤ self.old.len }
         requires short { self.old.len ≤ cell_count }

@@ -10,6 +10,7 @@ use super::{Cell, Chain, Distance, Queue, Walk};
 use refusal::Reason;
 
 impl Queue {
+    #[tactic(auto, unfolding(crate::specs::Steps::empty_step))]
     pub fn is_empty(&self) -> bool
         ensures { result ≡ empty_step self.now }
     {
@@ -17,6 +18,7 @@ impl Queue {
     }
 
     // Whether the first gap falls at a clock tick and stays above 0.
+    #[tactic(auto, unfolding(crate::specs::Steps::falls_step))]
     pub fn falls(&self) -> bool
         ensures { result ≡ falls_step self.now }
     {
@@ -24,6 +26,7 @@ impl Queue {
     }
 
     // Whether an event stands at distance 0.
+    #[tactic(auto, unfolding(crate::specs::Steps::due_step))]
     pub fn is_due(&self) -> bool
         ensures { result ≡ due_step self.now }
     {
@@ -37,6 +40,7 @@ impl Queue {
     }
 
     // The first gap falls by 1, where it is not 0.
+    #[tactic(auto, unfolding(crate::specs::Steps::nearer_step))]
     pub fn nearer(&mut self)
         ensures { self.new ≡ nearer_step self.old }
     {
@@ -44,6 +48,7 @@ impl Queue {
     }
 
     // The first cell goes, every other in use moves one place down, and the last one's place is cleared.
+    #[tactic(auto, using(crate::proofs::Ticking::copied_down, crate::proofs::Ticking::down_store, crate::proofs::Cells::rest_cells), unfolding(crate::specs::Steps::rest_step))]
     pub fn without_first(&mut self)
         ensures { self.new ≡ rest_step self.old }
     {
@@ -57,6 +62,7 @@ impl Queue {
     }
 
     // The first gap falls by 1, and a filler that reaches 0 goes.
+    #[tactic(auto, unfolding(crate::specs::Steps::tick_step))]
     pub fn tick(&mut self)
         ensures { self.new ≡ tick_step self.old }
     {
@@ -92,6 +98,7 @@ impl Queue {
 
     // The first cell goes, and its event is put in again: each cell that it passes moves one place down, and the next gap falls. Where its new place is not
     // plain it is taken out and put in.
+    #[tactic(auto, unfolding(crate::specs::Steps::again_step))]
     pub fn again(&mut self, delay: Distance)
         ensures { self.new ≡ again_step max_gap self.old delay.0 }
     {

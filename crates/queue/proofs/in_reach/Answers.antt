@@ -1,12 +1,11 @@
 -- `queue::in_reach` meets its contract: an id past the reaches has none, and is in no reach.
 use Rattle.std.proofs.Common.{◌≡◌, ℕ, ◌≤◌, Bool, true, false, ltb, leb, refl, length, arith}
 use lib.ListN.{get_or-eq_default}
-use borrow.Author.Tests.{ne_eqb, lt-ltb, le-ltb, lt-leb, ltb-true}
+use borrow.Author.Tests.{ne_eqb, lt-leb, ltb-true}
 use Rattle.small.specs.Small.{both}
 use Rattle.queue.specs.Limits.{filler}
 use Rattle.queue.specs.Holds.{in_ticks}
-use Rattle.queue.specs.declared.Distance.{Distance}
-use Rattle.queue.proofs.Holding.{ticks_length, ticks_at}
+use Rattle.queue.proofs.Holding.{ticks_length}
 use Rattle.queue.proofs.in_reach.Goals as goal
 
 no_reach : (at : ℕ) → both (ltb 0 at) (leb at 0) ≡ false
@@ -15,16 +14,6 @@ no_reach at = go (ltb 0 at) refl
     go : (b : Bool) → ltb 0 at ≡ b → both b (leb at 0) ≡ false
     go true p = lt-leb at 0 (ltb-true 0 at p)
     go false p = refl
-
-pub returns-then-at-gt0 : goal.returns-then-at-gt0
-returns-then-at-gt0 c =
-    let z : Distance = record { 0 = 0 } in
-    let m = rw c.from.ensures at c.in-Some.ensures.lookup.3.1 z in
-    rw (ne_eqb c.args.id filler c.if-id-eq-FILLER.false, lt-ltb 0 c.args.at c.if-at-gt0.true, ticks_at c.args.reach.now c.args.id z (omega (arith, c.in-Some.ensures.lookup.3.0)), ← m)
-
-pub returns-else-at-gt0 : goal.returns-else-at-gt0
-returns-else-at-gt0 c =
-    rw (ne_eqb c.args.id filler c.if-id-eq-FILLER.false, le-ltb 0 c.args.at (omega arith))
 
 pub returns-in-None : goal.returns-in-None
 returns-in-None c =

@@ -1,29 +1,13 @@
-use Rattle.std.proofs.Common.{◌≡◌, refl, ◌∙◌, ◌∷◌, ◌+◌, ◌≤◌, get_or, drop, append-nil, arith}
-use Rattle.std.proofs.lemmas.List.{drop_more, drop_all}
-use borrow.Author.Tests.{lt-leb}
+use Rattle.std.proofs.Common.{◌≡◌, ◌∙◌, ◌∷◌, ◌+◌, ◌≤◌, get_or, drop, arith}
+use Rattle.std.proofs.lemmas.List.{drop_more}
 use Rattle.queue.specs.Row.{cell}
-use Rattle.queue.proofs.Walking.{walked_none, walked_pass, pass_next, pass_near, place_pass}
+use Rattle.queue.proofs.Walking.{walked_pass, pass_next, pass_near, place_pass}
 use Rattle.queue.proofs.Walk.within.Goals as goal
 use Rattle.queue.proofs.Walk.within.Goals.{In-loop-c}
 
 -- the cell that stands next
 step : (c : In-loop-c) → let cs = c.args.row.now in let i = c.loop-c.w.next in drop i cs ≡ get_or cs c.loop-c.c-index (cell 0 0) ∷ drop (i + 1) cs
 step c = rw c.loop-c.invariant.0 (drop_more c.args.row.now c.loop-c.c-index (cell 0 0) c.loop-c-test.true)
-
-pub loop-c-init : goal.loop-c-init
-loop-c-init c =
-    (refl, walked_none _, omega arith, λ M id. refl)
-
-pub returns-then-d-w : goal.returns-then-d-w
-returns-then-d-w c =
-    let l = c.loop-c in
-    let h = rw c.from.ensures at c.if-d-w.true in
-    record {
-      walked = l.invariant.1;
-      near = l.invariant.2;
-      beyond = λ k. rw l.invariant.0 (h, omega arith);
-      row = λ M id. l.invariant.3 M id ∙ rw (step (goal.at.returns-then-d-w c).In-loop-c, lt-leb _ _ h);
-    }
 
 pub loop-c-preserved : goal.loop-c-preserved
 loop-c-preserved c =
@@ -37,13 +21,3 @@ loop-c-preserved c =
       pass_near _ l.w x h,
       λ M id. l.invariant.3 M id ∙ place_pass M id cs l.w x l.invariant.1.start_by (step (goal.at.loop-c-preserved c).In-loop-c) _ h,
     )
-
-pub returns : goal.returns
-returns c =
-    let l = c.loop-c in
-    record {
-      walked = l.invariant.1;
-      near = l.invariant.2;
-      beyond = λ k. absurd (omega arith);
-      row = λ M id. l.invariant.3 M id ∙ rw (drop_all l.w.next c.args.row.now (omega arith), append-nil);
-    }

@@ -131,3 +131,6 @@ module _ (q : Queue) (full : length q.cells ≡ cell_count) (fits : q.len ≤ ce
       let f : sets q.cells start pieces ≡ row ++ drop (length row) q.cells = s ∙ ap (λ (l : List Cell). l ++ drop (length l) q.cells) (sym e) in
       let n : spliced_to ≡ length row = sym (spliced_length row e) in
       λ j. record { cells = f j; len = n j }
+
+-- WHAT A SPLICE IS PROVED WITH
+pub ruleset splicing = (copied, sets_before, links_length)

@@ -22,7 +22,7 @@ use Rattle.queue.specs.declared.Queue.{Queue}
 use Rattle.queue.proofs.Cells.{cells_length, cells_step, made_row, made_len}
 use Rattle.queue.proofs.Normal.{chain_of_lem, one_cell, split, proper_events}
 use Rattle.queue.proofs.Form.{normb_normal}
-use Rattle.queue.proofs.SoundLaws.{Sound, sound_cells, sound_full}
+use Rattle.queue.proofs.SoundLaws.{Sound, sound_is, sound_again, sound_cells, sound_full}
 use Rattle.queue.proofs.Scan.{near_end}
 
 -- THE CELLS
@@ -176,3 +176,6 @@ module _ (M D : ℕ) (q : Queue) (m : 1 ≤ M) (s : Sound M D q) where
           let n : gaps_of (cells_of q) ≡ D → ⊥ = eqb-false (gaps_of (cells_of q)) D p in
           let l : gaps_of (cells_of q) ≤ D = leb-true (gaps_of (cells_of q)) D (sym (near_sum D) ∙ s.near) in
           rw (le-leb (gaps_of (cells_of q)) (D - 1) (omega arith))
+
+-- WHAT PUSHING BACK IS PROVED WITH
+pub ruleset pushing = (sound_is, sound_again, push_events, push_overfull, far_end)

@@ -19,7 +19,7 @@ use Rattle.queue.specs.Steps.{first_cell, due_step, less_head, nearer_step, rest
 use Rattle.queue.specs.Moves.{down}
 use Rattle.queue.specs.declared.Cell.{Cell}
 use Rattle.queue.specs.declared.Queue.{Queue}
-use Rattle.queue.proofs.Cells.{made_cells, made_len, made_row, made_past}
+use Rattle.queue.proofs.Cells.{made_cells, made_len, made_row, made_past, rest_cells}
 use Rattle.queue.specs.Meaning.{Sorted}
 use Rattle.queue.proofs.Normal.{Proper, sorted_events, proper_events, chain_of_lem, one_cell, split}
 use Rattle.queue.proofs.SoundLaws.{Sound}
@@ -194,3 +194,6 @@ module _ (M D : ℕ) (q : Queue) (m : 1 ≤ M) (s : Sound M D q) where
 
   pub sound_first_lem : dueb (events_of q) ≡ true → (first_cell q).id ≡ due_id (events_of q)
   sound_first_lem d = ap (λ (c : Cell). c.id) (made_first q (cell (due_id es) 0) (normal M 0 (without_due es)) (made_take d))
+
+-- WHAT THE FIRST CELL'S GOING IS PROVED WITH
+pub ruleset going = (copied_down, down_store, rest_cells)

@@ -111,3 +111,6 @@ events_pass f cs w c here p =
 pub sought_there : (cs : List Cell) (id : ℕ) (o : Option Found) → Sought cs id o → is_some o ≡ hasb id (events_from 0 cs)
 sought_there cs id (Some f) s = sym s.there
 sought_there cs id None s = sym s
+
+-- WHAT A WALK WITHIN A DISTANCE IS PROVED WITH
+pub ruleset walking = (walked_none, walked_pass, pass_next, pass_near, place_pass)

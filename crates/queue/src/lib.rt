@@ -231,7 +231,7 @@ impl Queue {
     }
 
     // Every distance grows by 1.
-    #[tactic(auto, using(crate::proofs::SoundLaws::sound_is, crate::proofs::SoundLaws::sound_again, crate::proofs::Pushing::push_events, crate::proofs::Pushing::push_overfull, crate::proofs::Pushing::far_end), unfolding(crate::specs::Calls::push_back_of))]
+    #[tactic(auto, using(crate::proofs::Pushing::pushing), unfolding(crate::specs::Calls::push_back_of))]
     pub fn push_back(&mut self) -> Result<(), Reason>
         ensures { changed_by result self.new ≡ push_back_of max_gap longest self.old }
     {
@@ -315,7 +315,7 @@ impl Walk {
     };
 
     // The walk past every cell of a row that is at most d away.
-    #[tactic(auto, using(crate::proofs::Walking::walked_none, crate::proofs::Walking::walked_pass, crate::proofs::Walking::pass_next, crate::proofs::Walking::pass_near, crate::proofs::Walking::place_pass))]
+    #[tactic(auto, using(crate::proofs::Walking::walking))]
     fn within(row: &[Cell], d: u32) -> Walk
         requires { length row.now ≤ cell_count }
         ensures { Passed row.now d result }
@@ -451,7 +451,7 @@ impl Chain {
 
 impl Queue {
     // In place of the cells from a place up to those behind the rest: a chain, and the rest's.
-    #[tactic(auto, using(crate::proofs::Moving::copied, crate::proofs::Moving::sets_before, crate::proofs::Moving::links_length), unfolding(crate::specs::Moves::spliced))]
+    #[tactic(auto, using(crate::proofs::Moving::splicing), unfolding(crate::specs::Moves::spliced))]
     fn splice(&mut self, start: usize, own: Chain, rest: Rest)
         requires within { rest.behind ≤ self.old.len }
         requires short { self.old.len ≤ cell_count }

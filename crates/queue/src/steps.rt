@@ -48,7 +48,7 @@ impl Queue {
     }
 
     // The first cell goes, every other in use moves one place down, and the last one's place is cleared.
-    #[tactic(auto, using(crate::proofs::Ticking::copied_down, crate::proofs::Ticking::down_store, crate::proofs::Cells::rest_cells), unfolding(crate::specs::Steps::rest_step))]
+    #[tactic(auto, using(crate::proofs::Ticking::going), unfolding(crate::specs::Steps::rest_step))]
     pub fn without_first(&mut self)
         ensures { self.new ≡ rest_step self.old }
     {

@@ -1,5 +1,5 @@
--- Things of so many words each, one behind the other: how many words they take, what reads back, and what a loop that reads or writes them one by one has done
--- before the one at i. Over any kind of thing, its size in words, its reader g and its words f. Assumes nothing.
+-- Things of so many words each, one behind the other: how many words they take, what reads back, and what a loop that writes them one by one has done before the
+-- one at i. Over any kind of thing, its size in words, its reader g and its words f. Assumes nothing.
 use mathlib.Core.Path.{◌≡◌, refl, sym, ap, ◌∙◌}
 use mathlib.Core.List.{List, [], ◌∷◌, ◌++◌, append_assoc}
 use Prim.Native.Nat.{ℕ, zero, suc, ◌+◌, ◌-◌, ◌*◌, ◌≤◌, ◌<◌}

@@ -1,6 +1,6 @@
--- What is left to compute of a fresh state, by the place that a loop has come to. Assumes nothing.
+-- What is left to compute of a fresh state, by the place that a loop has come to, and an array that is made of another. Assumes nothing.
 use mathlib.Core.Path.{◌≡◌, refl, sym, ap, ◌∙◌}
-use mathlib.Core.List.{List, [], ◌∷◌, ◌++◌, map, append-nil}
+use mathlib.Core.List.{List, [], ◌∷◌, map}
 use Prim.Native.Nat.{ℕ, zero, suc, ◌+◌, ◌≤◌, ◌<◌}
 use native.Mathlib.Numerals.{add-one}
 use native.Mathlib.Omega.{arith}
@@ -8,8 +8,8 @@ use denote.Param.Members.{Mut}
 use Rattle.std.specs.Fn.{Called}
 use Rattle.std.specs.Array.{IsFromFnResult, IsFromFnResultFrom}
 use lib.Dec.{eqb}
-use lib.ListN.{length, get_or, take, drop, set, drop_of_length-le}
-use lib.Seq.{take_all, drop-cons, take-suc-set, append_snoc}
+use lib.ListN.{length, get_or, drop, drop_of_length-le}
+use lib.Seq.{drop-cons}
 use Rattle.small.specs.Small.{pick}
 use Rattle.queue.specs.Limits.{max_gap, longest}
 use Rattle.queue.specs.Calls.{insert_of}
@@ -26,17 +26,6 @@ module _ {A : Type 0} (f : A → ℕ) (xs : List A) (i : ℕ) (q : Queue) {whole
 
   pub put_end : length xs ≤ i → q ≡ whole
   put_end h = sym (is ∙ rw drop_of_length-le)
-
--- A LIST FILLED FROM ANOTHER, place by place: its elements before i, and then what f makes of the other's from i on, are the whole
-abbrev pub Filled : {A B : Type 0} → (A → B) → List A → ℕ → List B → Type 0
-Filled f xs i ys = take i ys ++ map f (drop i xs) ≡ map f xs
-
-module _ {A B : Type 0} (f : A → B) (xs : List A) (i : ℕ) (ys : List B) (filled : Filled f xs i ys) where
-  pub filled_step : (z : A) {y : B} → i < length xs → i < length ys → y ≡ f (get_or xs i z) → Filled f xs (i + 1) (set ys i y)
-  filled_step z h l e = rw (e, add-one, take-suc-set, append_snoc) (rw (drop-cons xs i z) at filled)
-
-  pub filled_end : length xs ≤ i → length ys ≤ i → ys ≡ map f xs
-  filled_end h l = rw (take_all i ys l, drop_of_length-le, append-nil) at filled
 
 -- a server's loads and a table's entries are what is made of each task and each server
 

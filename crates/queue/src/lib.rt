@@ -18,7 +18,7 @@ ghost use Rattle.queue.specs.Moves.{chain_for, links_of, queue_with, spliced, pu
 
 use refusal::Reason;
 
-// An event (id 0 to 254) or a filler (id 255), with its gap to the cell before it. The first gap counts from now. The id tells a filler, and no enum does (a):
+// An event (id 0 to 254) or a filler (id 255), with its gap to the cell before it. The first gap counts from now. The id tells a filler, and no enum does:
 // a queue of C and of the port's words may hold any byte (`clock_in` of queue_c, `queue_in` of port), and the calls refuse what is not sound.
 #[repr(C)]
 #[derive(Clone, Copy)]
@@ -48,7 +48,7 @@ impl Cell {
     }
 }
 
-// The first `len` cells are the queue; those past them are zero. An array and its length, and no Vec (a): no heap, and C holds this very struct (`clock_in`).
+// The first `len` cells are the queue; those past them are zero. An array and its length, and no Vec: no heap, and C holds this very struct (`clock_in`).
 #[repr(C)]
 #[derive(Clone, Copy)]
 pub struct Queue {
@@ -70,7 +70,7 @@ impl Queue {
 
     pub const LONGEST: u32 = 1_000_000;
 
-    // (a) The document's id, in a byte of a struct that C holds (`clock_in`): no enum.
+    // The document's id, in a byte of a struct that C holds (`clock_in`): no enum.
     pub const FILLER: u8 = 255;
 
     // How many ids `holds` looks for: a table's places.
@@ -299,7 +299,7 @@ fn all_seen(seen: &[bool; Queue::IDS], reach: &[Distance; Queue::HELD]) -> bool
 // WALKING
 
 // How far a walk has come: the cells passed, the place behind the last event among them, that event's distance, and the last cell's.
-// (d) `next` is how many cells are passed, which the callers go on from: the rest as a slice would be no place to store at.
+// `next` is how many cells are passed, which the callers go on from: the rest as a slice would be no place to store at.
 #[derive(Clone, Copy)]
 struct Walk {
     next: usize,

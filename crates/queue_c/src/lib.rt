@@ -9,7 +9,7 @@ ghost use Rattle.queue_c.specs.Lent.{took_of};
 use queue::Queue;
 use refusal::Refusal;
 
-// What a take answers beside the queue. (a) A number of a refusal and an id, and no Result: C has none (`take_in`, `struct took` of docs/PORTING.md).
+// What a take answers beside the queue. A number of a refusal and an id, and no Result: C has none (`take_in`, `struct took` of docs/PORTING.md).
 #[repr(C)]
 #[derive(Clone, Copy)]
 pub struct Took {
@@ -17,7 +17,7 @@ pub struct Took {
     pub id: u8,
 }
 
-// (a) C is answered by the number of a refusal, or 0 where there is none: `clock_in`, and `take_in` below.
+// C is answered by the number of a refusal, or 0 where there is none: `clock_in`, and `take_in` below.
 #[unsafe(no_mangle)]
 pub extern "C" fn clock_in(q: &mut Queue) -> Refusal
     ensures { (result ≡ (clock_of max_gap longest q.old).refusal) × (q.new ≡ (clock_of max_gap longest q.old).queue) }

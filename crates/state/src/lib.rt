@@ -206,7 +206,6 @@ impl Entry {
     }
 
     /// Whether the server has budget to give up: it is polling, and no work is pending.
-
     pub fn gives_up(&self, server: &Server) -> bool
         ensures { result ≡ gives_upb server.now.kind self.now }
     {

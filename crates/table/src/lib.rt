@@ -154,7 +154,7 @@ impl Table {
 
     pub const MOST_WORK: u32 = 1_000_000;
 
-    // Every entry unused.
+    // Every entry unused. Written out: of a derived default, over an array of servers, the proof did not close.
     pub fn zero() -> Table
         ensures { result ≡ zero_table }
     {

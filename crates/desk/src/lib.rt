@@ -18,7 +18,8 @@ pub struct Desk {
     pub left: u32,
 }
 
-// The answers of a batch of ticks, the first one's number, and how many there are. No heap: the answers stand in an array, and their count beside it.
+// The answers of a batch of ticks, the first one's number, and how many there are: flat, as the definition's `RanOn` is. No heap: the answers stand in an array,
+// and their count beside it.
 #[derive(Clone, Copy)]
 pub struct Ran {
     pub answers: [Answer; State::BATCH],

@@ -7,7 +7,7 @@ use std::fmt::Display;
 use std::{fmt, io};
 use table::Table;
 
-// An outcome as it is written here.
+// An outcome as it is written here: by the number and the place that C is told, 0 and 0 where nothing is refused.
 #[derive(Drop)]
 struct Answer(Refusal);
 
@@ -36,7 +36,8 @@ fn show<A: Drop, E: Into<Refusal>>(
 
 // SETUPS
 
-// A piece of a setup that stands at a place, and its values in words. The place stays beside the bytes: it may lie past the end, where `&mut s[at..]` is no slice.
+// A piece of a setup that stands at a place, and its values in words. The place stays beside the bytes: it may lie past the end, where `&mut s[at..]` is no
+// slice.
 // Servers and tasks differ in the width of one field and in each word: one generic record would take the words as parameters, and each row below its types.
 trait Record: Display + Drop {
     fn put(&self, s: &mut [u8], at: u16);
@@ -187,7 +188,7 @@ fn cut_records(rt: &impl Print) -> io::Result<()> {
     Ok(())
 }
 
-// The first n bytes, or all where there are fewer.
+// The first n bytes, or all where there are fewer: `get`, with the number as the cases have it.
 fn front(s: &[u8], n: u16) -> &[u8] {
     s.get(..usize::from(n)).unwrap_or(s)
 }

@@ -109,7 +109,7 @@ pub fn put<T: Field>(out: &mut [u8], at: usize, n: T)
         let mut left = n.wide();
         for k in 0..T::WIDTH {
             out[at + T::WIDTH - 1 - k] = (left % 256) as u8;
-            left = left / 256;
+            left /= 256;
         }
     }
 }

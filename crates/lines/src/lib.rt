@@ -99,7 +99,7 @@ fn fits(out: &[u8], at: usize, n: usize) -> bool
     at <= out.len() && n <= out.len() - at
 }
 
-// The text, where there is room for it; the place behind it.
+// The text, where there is room for it; the place behind it. `copy_from_slice` says it of a part of the buffer, and this of the whole one.
 fn copy(out: &mut [u8], at: usize, text: &[u8]) -> usize
     requires { at + length text.now ≤ length out.old }
     ensures answer { result ≡ at + length text.now }

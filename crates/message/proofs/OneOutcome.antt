@@ -8,6 +8,7 @@ use Rattle.message.specs.Meaning.{write_of, written_to}
 use Rattle.message.proofs.Answers.{reading_one}
 use Rattle.message.proofs.read.Reads as read
 use Rattle.message.proofs.write.Reads as write
+use Rattle.message.proofs.KindTryFromU8.try_from.Reads as try-from
 
 -- "For every input, each public call's contract determines the complete outcome"
 pub read_one : One read.Post (λ κs x e. x)
@@ -29,3 +30,7 @@ Says {K = K} {A = A} {X = X} {E = E} allows said = (κs : K) (a : A κs) (x : X 
 pub write_says : Says write.Post (λ κs a x e. let buf = a.1.1.1.0.now in
     (written_by x ≡ write_of a.0 a.1.0 a.1.1.0 buf) × (e.1.1.1.0.now ≡ written_to a.0 a.1.0 a.1.1.0 buf))
 write_says κs a x e p = p
+
+-- what the fourth byte says
+pub kind_named_one : One try-from.Post (λ κs x e. x)
+kind_named_one κs a x y e f p q = same p q

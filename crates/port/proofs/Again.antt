@@ -1,5 +1,5 @@
 -- WHAT A CALL LEAVES IN THE WORDS, THE NEXT CALL READS: behind each call that stores, accepted or refused, the words are read as the queue or the state that the call
--- by value hands back. Assumes nothing.
+-- leaves. Assumes nothing.
 use mathlib.Core.Path.{◌≡◌, refl, sym, subst}
 use mathlib.Core.Bool.{Bool, true, false}
 use mathlib.Core.List.{List, [], ◌∷◌}
@@ -104,7 +104,7 @@ module _ (ws : List ℕ) (r : Refusal) (q : Queue) (x : ℕ) where
   queue_again : (r.number ≡ 0 → Stores) → (r.number ≢ 0 → q ≡ queue_in ws) → queue_in (held_after r (queue_words q) ws) ≡ q
   queue_again accepted refused = held_again queue_in r (queue_words q) ws q (λ a. stored_again (accepted a)) (λ n. sym (refused n))
 
--- EACH CALL: the words behind it, accepted or refused, are read as the queue that the call by value hands back
+-- EACH CALL: the words behind it, accepted or refused, are read as the queue that the call leaves
 
 pub empty_again : queue_in (queue_words (queue_of [])) ≡ queue_of []
 empty_again = queue_there (queue_of []) (empty_sound max_gap longest) (rw empty_events tt)
@@ -168,7 +168,7 @@ module _ (bs : List ℕ) (a : (read_of longest most_work bs).refusal.number ≡ 
       let h = accepted_sound longest most_work bs a in
       state_there (fresh_of t).state (rw (fresh_made t h.0) (fresh_sized t h.1)) (fresh_gives t h.0)
 
--- BEHIND A TICK AND AN ARRIVAL, accepted or refused: the state that the call by value hands back
+-- BEHIND A TICK AND AN ARRIVAL, accepted or refused: the state that the call leaves
 pub tick_again : (ws : List ℕ) → let t = tick_of (state_in ws) in state_in (held_state t ws) ≡ t.state
 tick_again ws =
     let s = state_in ws in

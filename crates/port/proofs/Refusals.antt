@@ -1,5 +1,5 @@
 -- "Given exactly when": each refusal number of the two calls that read a budget and a load, and number 0 where they are not refused. Every other call has the
--- refusals of the call by value. Assumes nothing.
+-- refusals of the library's call. Assumes nothing.
 use mathlib.Core.Path.{◌≡◌, refl, ap}
 use mathlib.Core.Bool.{true, false, not}
 use mathlib.Core.Logic.{◌↔◌}

@@ -1,6 +1,6 @@
-// The library for a kernel in C: include/ribascenzo.h declares it, and so names, signatures and the arrays of words that answers are stored to are C's. A queue,
-// a table or a state is held in words at fixed places (words.rt). A call reads them, does what the call on the value does, and stores what comes of it; a
-// refused call stores nothing.
+// The library for a kernel in C: include/ribascenzo.h declares it, and so names, signatures and the arrays of words that answers are stored to are C's. A
+// queue, a table or a state is held in words at fixed places (words.rt). A call reads them, does what the call on the value does, and stores what comes of it;
+// a refused call stores nothing.
 #![tactic(auto)]
 
 mod words;
@@ -106,6 +106,7 @@ pub extern "C" fn ribascenzo_queue_take(q: &mut [u32; QUEUE], id: &mut [u8; 1]) 
     }
 }
 
+// C has a name for each call, so it stands beside clock's.
 #[unsafe(no_mangle)]
 pub extern "C" fn ribascenzo_queue_push_back(q: &mut [u32; QUEUE]) -> Refusal
     ensures refusal { result ≡ (push_back_of max_gap longest (queue_in q.old)).refusal }
@@ -128,6 +129,7 @@ pub extern "C" fn ribascenzo_fresh(s: &mut [u32; STATE], setup: &[u8]) -> Refusa
     }
 }
 
+// C has a name for each test, so it stands beside the queue's.
 #[unsafe(no_mangle)]
 pub extern "C" fn ribascenzo_sound(s: &[u32; STATE]) -> bool
     ensures { result ≡ stateb (state_in s.now) }
@@ -166,6 +168,7 @@ pub extern "C" fn ribascenzo_arrive(
     store(said.map(arrival_words), lost)
 }
 
+// State and server, and the task below, as C hands them in.
 #[unsafe(no_mangle)]
 pub extern "C" fn ribascenzo_budget(s: &[u32; STATE], server: u8, budget: &mut [u32; 1]) -> Refusal
     ensures refusal { result ≡ budget_refusal (state_in s.now) server }
@@ -222,6 +225,7 @@ pub extern "C" fn ribascenzo_message_read(bytes: &[u8], message: &mut [u32; 3]) 
     store(message::read(bytes).map(message_words), message)
 }
 
+// The kind is a byte, as C hands it in: 17 refuses one that is none.
 #[unsafe(no_mangle)]
 pub extern "C" fn ribascenzo_message_write(kind: u8, a: u8, b: u8, out: &mut [u8]) -> Refusal
     ensures refusal { result ≡ message_refusal kind (length out.old) }

@@ -432,6 +432,7 @@ struct Rest {
 }
 
 impl Chain {
+    // No cells. It is no `None`: whoever stores a chain stores as many cells as it has, and asks nothing.
     const NONE: Chain = Chain {
         id: 0,
         cells: 0,

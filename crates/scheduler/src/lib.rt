@@ -57,6 +57,7 @@ pub fn run(s: &mut State, k: usize) -> Result<Batch, Reason>
         handled: 0,
     };
     let mut answers = [idle; State::BATCH];
+    // by index: each answer is of a tick that changes the state, and those behind the count stay idle
     for i in 0..count {
         answers[i] = one_tick(s);
     }
@@ -102,6 +103,7 @@ fn one_tick(s: &mut State) -> Answer
 {
     let choice = charge_chosen(s);
     let mut handled = handle_refills(s);
+    // by index: a server is read while its entry is changed
     for i in 0..Table::ENTRIES {
         handled += handle_entry(&s.table.servers[i], &mut s.entries[i]);
     }
@@ -134,7 +136,8 @@ fn charge(e: &mut Entry) -> Option<usize>
     Some(j)
 }
 
-// Step 4 for the replenishments: their queue is clocked, and each that is due sets its server's budget and goes in again a period away. How many they are.
+// Step 4 for the replenishments: their queue is clocked, and each that is due sets its server's budget and goes in again a period away. How many they are. A
+// function of this and `handle_arrivals` would take a closure over all entries here and over one there, and its contract the two invariants.
 fn handle_refills(s: &mut State) -> u32
     requires { Refillable s.old }
     ensures { (s.new ≡ refills_after s.old) × (result ≡ length (due_in s.old.refills)) }

@@ -47,7 +47,7 @@ pub fn read(s: &[u8]) -> Result<Table, Fault>
     Ok(Table { servers, count })
 }
 
-/// What is left to read of a setup, and its place.
+/// What is left to read of a setup, and its place: no length of the slice, but what refusals name.
 #[derive(Drop)]
 struct Reader<'a> {
     rest: &'a [u8],
@@ -143,7 +143,7 @@ impl Reader<'_> {
     {
         let n = field::read(self.rest, 0);
         self.rest = &self.rest[T::WIDTH..];
-        self.at = self.at + T::WIDTH;
+        self.at += T::WIDTH;
         n
     }
 
@@ -208,6 +208,7 @@ impl Reader<'_> {
         ensures rest { OnOk result (self.new.rest.now ≡ drop (all_size R.span n self.old.rest.now) self.old.rest.now) }
     {
         let mut all = [zero; Table::ENTRIES];
+        // by index, since reading may fail on the way: `array::from_fn` hands on no `Err`
         for i in 0..n {
             all[i] = R::read(self)?;
         }
@@ -309,7 +310,7 @@ fn size_of(t: &Table) -> usize
     size
 }
 
-/// Where a setup is written, and the place of the next byte.
+/// Where a setup is written, and the place of the next byte: the contracts speak of the whole buffer, which `&mut out[at..]` would no longer be.
 #[derive(Drop)]
 struct Writer<'a> {
     out: &'a mut [u8],
@@ -326,7 +327,7 @@ impl Writer<'_> {
         ensures bytes { self.new.out.now ≡ over self.old.at (big T.WIDTH (T.value n)) self.old.out.now }
     {
         field::put(self.out, self.at, n);
-        self.at = self.at + T::WIDTH;
+        self.at += T::WIDTH;
     }
 
     /// A table, from its length on.

@@ -92,7 +92,7 @@ impl State {
             .position(|(s, e)| e.is_ready(s))
     }
 
-    /// Whether each entry is sound beside its server.
+    /// Whether each entry is sound beside its server. This and `all_spent` are one chain each: a function of both would take the test, and be no shorter.
     fn all_sound(&self) -> bool
         ensures { result ≡ entriesb self.now.table.servers self.now.entries }
     {

@@ -82,6 +82,7 @@ impl Release {
         }
     }
 
+    // One field beside the other, as `period`: there is no third to be generic over.
     pub fn offset(self) -> Distance
         ensures { result.0 ≡ offset_of self }
     {
@@ -214,6 +215,7 @@ impl Part for Server {
 }
 
 impl Task {
+    // The derived default, by the name that a table's and a server's zero have (`zero_task_one`).
     pub fn zero() -> Task
         ensures { result ≡ zero_task }
     {

@@ -22,7 +22,7 @@ use field::Field;
 use queue::{Distance, Queue};
 use refusal::{Fault, Reason};
 use std::ops::RangeInclusive;
-use table::{Kind, Part, Release, Served, Server, Table, Task};
+use table::{Kind, Release, Served, Server, Table, Task};
 
 const VERSION: u8 = 1;
 

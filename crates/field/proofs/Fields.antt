@@ -4,11 +4,12 @@ use mathlib.Core.Bool.{Bool, true, false}
 use mathlib.Core.List.{List, [], ◌∷◌, ◌++◌, append_assoc}
 use Prim.Native.Nat.{ℕ, zero, suc, ◌+◌, ◌*◌, ◌/◌, ◌^◌, ◌≤◌, ◌<◌}
 use native.Mathlib.Nat.{add-zero, zero-add, add_assoc, mod-lt, one-le-pow, pow-succ', min-eq_left, min-eq_right, sub_self}
+use native.Mathlib.Numerals.{add-one}
 use native.Mathlib.Omega.{arith}
 use lib.Arith.{digits_lt}
 use lib.Dec.{leb}
-use lib.ListN.{set, length, take, drop, length-append, length-drop, take-append-drop, drop_of_length-le}
-use lib.Seq.{take-set-lt, length-take-le, take_at, drop_at, drop-drop, get_or-drop}
+use lib.ListN.{set, length, take, drop, length-append, length-drop, take-append-drop, drop_of_length-le, get_or-eq_default}
+use lib.Seq.{sets, sets-eq, take-set-lt, length-take-le, take_at, drop_at, drop-drop, get_or-drop}
 use borrow.Author.Tests.{le-leb, lt-leb, leb-true, leb-false}
 use Rattle.std.specs.List.{slice_range}
 use Rattle.std.specs.Prelude.{min}
@@ -53,6 +54,14 @@ big_bytes (suc w) n = (mod-lt (n / 256 ^ w) (omega arith), big_bytes w n)
 pub field_below : (w : ℕ) (bs : List ℕ) → Bytes bs → field_of w bs < 256 ^ w
 field_below zero bs p = positive 0
 field_below (suc w) bs p = rw pow-succ' (digits_lt (byte_below bs p) (field_below w (drop 1 bs) (bytes_drop 1 bs p)))
+
+-- what stands past the end reads as 0
+pub byte_past : (at k : ℕ) (bs : List ℕ) → length bs ≤ at + k → byte_of k (drop at bs) ≡ 0
+byte_past at k bs h = get_or-drop at bs k 0 ∙ get_or-eq_default bs 0 h
+
+-- a field's first byte, and the field of the rest
+pub field_step : (w k j : ℕ) (bs : List ℕ) → j ≡ suc k → field_of (suc w) (drop k bs) ≡ byte_of k bs * 256 ^ w + field_of w (drop j bs)
+field_step w k j bs e = rw (e, get_or-drop, drop-drop, add-zero, add-one)
 
 -- a field's bytes but the last are a field, and the last stands behind them
 pub field_more : (w : ℕ) (bs : List ℕ) → field_of (suc w) bs ≡ field_of w bs * 256 + byte_of w bs
@@ -127,6 +136,10 @@ over_over at xs ys buf h =
       drop_at p rest (at + length xs) l,
     )
     (simp (drop-drop, length-append, add_assoc, append_assoc))
+
+-- stores from a place on, one behind the other
+pub over_sets : (at : ℕ) (xs buf : List ℕ) → at + length xs ≤ length buf → sets buf at xs ≡ over at xs buf
+over_sets at xs buf h = sets-eq xs buf at h ∙ append_assoc (take at buf) xs _ ∙ sym (over_fits at xs buf h)
 
 -- a store right before what was written last
 pub over_before : (at x : ℕ) (xs buf : List ℕ) → at + 1 + length xs ≤ length buf → set (over (at + 1) xs buf) at x ≡ over at (x ∷ xs) buf

@@ -138,6 +138,14 @@ without_fewer M t id (e ∷ es) m s = go (eqb e.id id) (without_fewer M e.at id 
     go true r = rw (length-append, cells_count M (e.at - t) e.id) (omega (arith, first_fewer M t e.at es m s.0 s.1))
     go false r = rw (length-append, length-append) (omega arith)
 
+pub without_length : (id : ℕ) (es : List Event) → length (without_event id es) ≤ length es
+without_length id [] = omega arith
+without_length id (e ∷ es) = go (eqb e.id id) (without_length id es)
+  where
+    go : (b : Bool) → length (without_event id es) ≤ length es → length (pick b es (e ∷ without_event id es)) ≤ suc (length es)
+    go true r = omega arith
+    go false r = omega arith
+
 -- what holds of the rest of a list too, and of an event before what is left where it held of the list, holds of what is left
 without_keeps : (P : List Event → Type 0) (id : ℕ) → ((e : Event) (es : List Event) → P (e ∷ es) → P es)
     → ((e : Event) (es : List Event) → P (e ∷ es) → P (without_event id es) → P (e ∷ without_event id es)) → (es : List Event) → P es → P (without_event id es)
@@ -253,6 +261,10 @@ earlier_distance j (e ∷ es) d h = go (eqb e.id j) h (earlier_distance j es (ne
 pub later_sorted : (t : ℕ) (es : List Event) → Sorted t es → Sorted (t + 1) (later es)
 later_sorted t [] s = tt
 later_sorted t (e ∷ es) s = (omega (arith, s.0), later_sorted e.at es s.1)
+
+pub later_length : (es : List Event) → length (later es) ≡ length es
+later_length [] = refl
+later_length (e ∷ es) = ap suc (later_length es)
 
 pub later_proper : (es : List Event) → Proper es → Proper (later es)
 later_proper [] p = tt

@@ -15,7 +15,7 @@ use Rattle.queue.specs.Row.{Event, event, cell, events_from, chain, cells_for, n
 use Rattle.queue.specs.Sound.{same_cells}
 use Rattle.queue.specs.Moves.{normb}
 use Rattle.queue.specs.declared.Cell.{Cell}
-use Rattle.queue.proofs.Normal.{Proper, chain_of_lem, one_cell, split}
+use Rattle.queue.proofs.Normal.{Proper, chain_of_lem, one_cell, split, proper_events}
 
 -- the test that two rows are the same shows that they are
 pub same_cells_lem : (l bs : List Cell) → same_cells l bs ≡ true → l ≡ bs
@@ -129,6 +129,22 @@ pub normb_normal : (M t : ℕ) (es : List Event) → 1 ≤ M → Proper es → n
 normb_normal M t [] m p = refl
 normb_normal M t (e ∷ es) m p = normb_cells M (e.at - t) e.id (normal M e.at es) p.0 m ∙ normb_normal M e.at es m p.1
 
+-- so the two tests are one
 pub same_self : (cs : List Cell) → same_cells cs cs ≡ true
 same_self [] = refl
 same_self (c ∷ cs) = rw (eq-eqb c.id c.id refl, eq-eqb c.gap c.gap refl) (same_self cs)
+
+pub normb_same : (M : ℕ) (cs : List Cell) → 1 ≤ M → normb M false cs ≡ same_cells cs (normal M 0 (events_from 0 cs))
+normb_same M cs m = go (normb M false cs) (same_cells cs (normal M 0 (events_from 0 cs))) refl refl
+  where
+    go : (a b : Bool) → normb M false cs ≡ a → same_cells cs (normal M 0 (events_from 0 cs)) ≡ b → a ≡ b
+    go true true p q = refl
+    go false false p q = refl
+    go true false p q =
+        let e : cs ≡ normal M 0 (events_from 0 cs) = normb_is M cs m p in
+        let s : same_cells cs (normal M 0 (events_from 0 cs)) ≡ true = ap (same_cells cs) (sym e) ∙ same_self cs in
+        cc
+    go false true p q =
+        let e : cs ≡ normal M 0 (events_from 0 cs) = same_cells_lem cs (normal M 0 (events_from 0 cs)) q in
+        let s : normb M false cs ≡ true = ap (normb M false) e ∙ normb_normal M 0 (events_from 0 cs) m (proper_events 0 cs) in
+        cc

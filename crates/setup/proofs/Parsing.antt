@@ -9,7 +9,7 @@ use native.Mathlib.Omega.{arith}
 use lib.Dec.{leb, ltb, eqb}
 use lib.ListN.{length, drop, set, length-drop}
 use lib.Seq.{drop-drop}
-use borrow.Author.Tests.{ne_eqb, lt-ltb, le-ltb, ltb-false, leb-true, not-false}
+use borrow.Author.Tests.{eq-eqb, ne_eqb, eqb-true, lt-ltb, le-ltb, ltb-false, leb-true, not-false}
 use Rattle.std.specs.Prelude.{Result, Ok, Err}
 use Rattle.std.specs.Result.{IsErrAnd}
 use Rattle.small.specs.Small.{pick, padded}
@@ -21,10 +21,10 @@ use Rattle.refusal.specs.declared.Fault.{Fault}
 use Rattle.refusal.specs.declared.Reason.{Reason}
 use Rattle.refusal.specs.declared.Reason.TheVariants.{BytesLeft}
 use Rattle.refusal.specs.declared.Refusal.{Refusal}
-use Rattle.refusal.proofs.Exactly.{Numbered, numbered_append, first_append, passes}
+use Rattle.refusal.proofs.Exactly.{Numbered, numbered_append, first_append, neither_refuses, passes}
 use Rattle.refusal.proofs.Reasons.{refusal_in_one}
 use Rattle.refusal.specs.Numbers.{bytes_left}
-use Rattle.field.specs.Field.{byte_of}
+use Rattle.field.specs.Field.{byte_of, field_of}
 use Rattle.table.specs.Limits.{entries}
 use Rattle.table.specs.Table.{zero_task, zero_server, zero_table}
 use Rattle.table.specs.Sound.{rangeb}
@@ -32,7 +32,7 @@ use Rattle.table.specs.declared.Task.{Task}
 use Rattle.table.specs.declared.Server.{Server}
 use Rattle.table.specs.declared.Table.{Table}
 use Rattle.setup.specs.Read.{task_size, task_checks, task_of, tasks_checks, tasks_of, head_size, head_checks, server_checks, server_of, server_size, servers_checks, servers_of, servers_size, start_checks, end_of, setup_checks, read_with, reading_by, read_of, table_of}
-use Rattle.setup.specs.Moves.{head_of, all_checks, all_given, all_size, head_numbered, server_numbered, start_numbered}
+use Rattle.setup.specs.Moves.{head_of, all_checks, all_given, all_size, task_numbered, head_numbered, server_numbered, start_numbered}
 
 -- a reason's number is not that of none
 pub some_number : (r : Reason) → number_of r ≢ 0
@@ -46,6 +46,24 @@ refused_by (Err e) f h = ap refusal_at h
 pub reading_of : (r : Result Table Fault) (f : Fault) → IsErrAnd r (λ e. e ≡ f) → reading_by r ≡ read_with (refusal_at f) zero_table
 reading_of (Ok x) f h = absurd h
 reading_of (Err e) f h = ap (λ (f : Fault). read_with (refusal_at f) zero_table) h
+
+-- SO MANY RECORDS, one behind the other, of a kind whose every refusal has a number
+
+module _ (checks : ℕ → List ℕ → List Check) (span : List ℕ → ℕ) (each : (k : ℕ) (bs : List ℕ) → Numbered (checks k bs)) where
+  pub all_numbered : (n k : ℕ) (bs : List ℕ) → Numbered (all_checks checks span n k bs)
+  all_numbered zero k bs = tt
+  all_numbered (suc n) k bs = numbered_append (checks k bs) _ (each k bs) (all_numbered n (k + span bs) (drop (span bs) bs))
+
+  -- records of which none is refused are whole
+  module _ (whole : (k : ℕ) (bs : List ℕ) → (first_of (checks k bs)).number ≡ 0 → span bs ≤ length bs) where
+    pub all_whole : (n k : ℕ) (bs : List ℕ) → (first_of (all_checks checks span n k bs)).number ≡ 0 → all_size span n bs ≤ length bs
+    all_whole zero k bs e = omega arith
+    all_whole (suc n) k bs e =
+        let l = span bs in
+        let h = neither_refuses (checks k bs) (all_checks checks span n (k + l) (drop l bs)) (each k bs) e in
+        let one : l ≤ length bs = whole k bs h.0 in
+        let rest : all_size span n (drop l bs) ≤ length bs - l = rw (← length-drop l bs) (all_whole n (k + l) (drop l bs) h.1) in
+        omega arith
 
 module _ {A : Type 0} (checks : ℕ → List ℕ → List Check) (gives : List ℕ → A) (span : List ℕ → ℕ) where
   length_given : (n : ℕ) (bs : List ℕ) → length (all_given gives span n bs) ≡ n
@@ -204,16 +222,47 @@ module _ (D W : ℕ) (bs : List ℕ) where
           let e : first_of (setup_checks D W bs) ≡ none = rw (setup_first D W bs, ← h, ← servers_are, ← o, ← here, le-ltb at (length bs) (omega (arith, some_left))) in
           rw (e, t, m, r, servers_of_are)
 
--- a start that is not refused has at most as many servers as there are entries
-pub start_few : (bs : List ℕ) → first_of (start_checks bs) ≡ none → byte_of 3 bs ≤ entries
-unfolding start_checks
-start_few bs e =
-    let p = (passes (start_checks bs) (start_numbered bs)).0 (ap (λ (r : Refusal). r.number) e) in
-    leb-true (byte_of 3 bs) entries (both_right (leb 1 (byte_of 3 bs)) _ (not-false (rangeb 1 entries (byte_of 3 bs)) p.1.1.1.0))
+-- of all the bytes: where neither its start nor its servers are refused, bytes that stand behind them are
+pub bytes_left_lem : (D W : ℕ) (bs : List ℕ) → (first_of (start_checks bs)).number ≡ 0 → (first_of (servers_checks D W (byte_of 3 bs) 4 (drop 4 bs))).number ≡ 0
+    → (next : ℕ) → next ≡ end_of bs → next < length bs → read_of D W bs ≡ read_with (refused bytes_left next) zero_table
+unfolding read_of
+bytes_left_lem D W bs h o next e l = rw (setup_first D W bs, eq-eqb _ 0 h, eq-eqb _ 0 o, ← e, lt-ltb next (length bs) l)
 
--- a head, as many tasks as there are entries
-pub head_few : (D k : ℕ) (bs : List ℕ) → first_of (head_checks D k bs) ≡ none → byte_of 1 bs ≤ entries
+-- WHAT IS NOT REFUSED IS WHOLE
+
+pub task_whole : (D W k : ℕ) (bs : List ℕ) → (first_of (task_checks D W k bs)).number ≡ 0 → task_size ≤ length bs
+unfolding task_checks
+task_whole D W k bs e = ltb-false (length bs) task_size ((passes (task_checks D W k bs) (task_numbered D W k bs)).0 e).0
+
+-- a server's head, which has at most as many tasks as there are entries
+pub head_whole : (D k : ℕ) (bs : List ℕ) → (first_of (head_checks D k bs)).number ≡ 0 → (head_size ≤ length bs) × (byte_of 1 bs ≤ entries)
 unfolding head_checks
-head_few D k bs e =
-    let p = (passes (head_checks D k bs) (head_numbered D k bs)).0 (ap (λ (r : Refusal). r.number) e) in
-    ltb-false entries (byte_of 1 bs) p.1.1.0
+head_whole D k bs e =
+    let p = (passes (head_checks D k bs) (head_numbered D k bs)).0 e in
+    (ltb-false (length bs) head_size p.0, ltb-false entries (byte_of 1 bs) p.1.1.0)
+
+-- a server with its tasks
+pub server_whole : (D W k : ℕ) (bs : List ℕ) → (first_of (server_checks D W k bs)).number ≡ 0 → server_size bs ≤ length bs
+unfolding server_checks
+server_whole D W k bs e =
+    let n = byte_of 1 bs in
+    let rest = drop head_size bs in
+    let h = neither_refuses (head_checks D k bs) (tasks_checks D W n (k + head_size) rest) (head_numbered D k bs) e in
+    let all : (first_of (all_checks (task_checks D W) (λ bs. task_size) n (k + head_size) rest)).number ≡ 0 = rw (tasks_checks_are D W n (k + head_size) rest) h.1 in
+    let tasks = all_whole (task_checks D W) (λ bs. task_size) (task_numbered D W) (task_whole D W) n (k + head_size) rest all in
+    omega (arith, (head_whole D k bs h.0).0, tasks, tasks_size_is n rest, length-drop head_size bs)
+
+-- a start, which states the length and has at most as many servers as there are entries
+pub start_whole : (bs : List ℕ) → (first_of (start_checks bs)).number ≡ 0 → (4 ≤ length bs) × (field_of 2 bs ≡ length bs) × (byte_of 3 bs ≤ entries)
+unfolding start_checks
+start_whole bs e =
+    let p = (passes (start_checks bs) (start_numbered bs)).0 e in
+    let n = not-false (rangeb 1 entries (byte_of 3 bs)) p.1.1.1.0 in
+    (ltb-false (length bs) 4 p.0, eqb-true (field_of 2 bs) (length bs) (not-false _ p.1.0), leb-true (byte_of 3 bs) entries (both_right (leb 1 (byte_of 3 bs)) _ n))
+
+-- as the code asks it
+pub head_few : (D k : ℕ) (bs : List ℕ) → first_of (head_checks D k bs) ≡ none → byte_of 1 bs ≤ entries
+head_few D k bs e = (head_whole D k bs (ap (λ (r : Refusal). r.number) e)).1
+
+pub start_few : (bs : List ℕ) → first_of (start_checks bs) ≡ none → byte_of 3 bs ≤ entries
+start_few bs e = (start_whole bs (ap (λ (r : Refusal). r.number) e)).2

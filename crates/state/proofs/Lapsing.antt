@@ -1,10 +1,10 @@
 -- A budget that is given up: what `lapsed` leaves of an entry. Assumes nothing.
 use mathlib.Core.Path.{◌≡◌, refl, sym, ap, ◌∙◌}
-use mathlib.Core.Bool.{Bool, true, false}
+use mathlib.Core.Bool.{Bool, true, false, not}
 use native.Mathlib.Omega.{arith}
 use lib.Dec.{ltb, eqb}
-use borrow.Author.Tests.{eq-eqb, ltb-false}
-use Rattle.small.specs.Small.{pick}
+use borrow.Author.Tests.{eq-eqb, ne_eqb, ltb-true, ltb-false}
+use Rattle.small.specs.Small.{pick, both}
 use Rattle.small.proofs.Tests.{both_left}
 use Rattle.table.specs.declared.Server.{Server}
 use Rattle.state.specs.State.{with_budget}
@@ -44,6 +44,15 @@ module _ (s : Server) (e : Entry) where
           let p = (entry_stated s e).0 h in
           (entry_stated s (with_budget 0 e)).1 record { budget = omega arith; loads = p.loads; arrivals = p.arrivals }
       go false = h
+
+  -- the test of an entry is that there is nothing to give up
+  pub gives_none : spentb s e ≡ not (gives_upb s.kind e)
+  gives_none = go (lapsesb s.kind e) (ltb 0 e.budget.0) refl
+    where
+      go : (a b : Bool) → ltb 0 e.budget.0 ≡ b → pick a (eqb e.budget.0 0) true ≡ not (both a b)
+      go true true p = ne_eqb e.budget.0 0 (λ z. omega (arith, ltb-true 0 e.budget.0 p))
+      go true false p = eq-eqb e.budget.0 0 (omega (arith, ltb-false 0 e.budget.0 p))
+      go false b p = refl
 
   -- there is nothing left to give up
   pub lapsed_spent : spentb s (lapsed s e) ≡ true

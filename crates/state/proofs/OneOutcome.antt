@@ -9,6 +9,8 @@ use Rattle.state.proofs.Entry.first_pending.Reads as first-pending
 use Rattle.state.proofs.State.chosen.Reads as chosen
 use Rattle.state.proofs.Entry.gives_up.Reads as gives-up
 use Rattle.state.proofs.Entry.give_up.Reads as give-up
+use Rattle.state.proofs.LoadPart.is_sound.Reads as load-is_sound
+use Rattle.state.proofs.LoadPart.is_zero.Reads as load-is_zero
 
 pub fresh_one : One fresh.Post (λ κs x e. x)
 fresh_one κs a x y e f p q = made_one a.0.now x y (same p q)
@@ -27,3 +29,9 @@ gives_up_one κs a x y e f p q = same p q
 
 pub give_up_one : One give-up.Post (λ κs x e. e.0.now)
 give_up_one κs a x y e f p q = same p q
+
+pub load_sound_one : One load-is_sound.Post (λ κs x e. x)
+load_sound_one κs a x y e f p q = same p q
+
+pub load_zero_one : One load-is_zero.Post (λ κs x e. x)
+load_zero_one κs a x y e f p q = same p q

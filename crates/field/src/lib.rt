@@ -4,7 +4,12 @@
 
 ghost use Rattle.std.specs.Prelude.{◌≡◌, ℕ, ◌+◌, ◌^◌, ◌%◌, ◌≤◌, ◌<◌, drop};
 ghost use Rattle.field.specs.Field.{field_of, big, over};
+ghost use Rattle.field.specs.Write.{written_with, written_by};
+ghost use Rattle.refusal.specs.Refusal.{none};
+ghost use Rattle.refusal.specs.Reason.{refusal_by};
 ghost use Rattle.std.proofs.Common.{arith};
+
+use refusal::Reason;
 
 /// A number that stands in a field of its own width.
 pub trait Field: Copy {
@@ -112,4 +117,20 @@ pub fn put<T: Field>(out: &mut [u8], at: usize, n: T)
             left /= 256;
         }
     }
+}
+
+// WHAT A WRITER ANSWERS
+
+/// So many bytes are written.
+pub fn whole(length: usize) -> Result<usize, Reason>
+    ensures { written_by result ≡ written_with none length }
+{
+    Ok(length)
+}
+
+/// No byte is written, for this reason.
+pub fn refused(reason: Reason) -> Result<usize, Reason>
+    ensures { written_by result ≡ written_with (refusal_by reason) 0 }
+{
+    Err(reason)
 }

@@ -72,9 +72,15 @@ pub fn write(kind: u8, a: u8, b: u8, out: &mut [u8]) -> Result<usize, Reason>
 {
     let kind = Kind::try_from(kind)?;
     if out.len() < Message::LENGTH {
-        return Err(Reason::BufferShort);
+        return field::refused(Reason::BufferShort);
     }
     let [high, low] = (Message::LENGTH as u16).to_be_bytes();
-    out[..Message::LENGTH].copy_from_slice(&[high, low, Message::VERSION, kind as u8, a, b]);
-    Ok(Message::LENGTH)
+    // byte by byte: a copy of a row of bytes asks first whether it overlaps the buffer
+    out[0] = high;
+    out[1] = low;
+    out[2] = Message::VERSION;
+    out[3] = kind as u8;
+    out[4] = a;
+    out[5] = b;
+    field::whole(Message::LENGTH)
 }

@@ -51,7 +51,7 @@ pub fn run(s: &mut State, k: usize) -> Result<Batch, Reason>
     ensures { batch_by result s.new ≡ run_of s.old k }
 {
     checked(s)?;
-    let count = k.min(State::BATCH);
+    let count = small::least(k, State::BATCH);
     let idle = Answer {
         choice: Choice::Idle,
         handled: 0,

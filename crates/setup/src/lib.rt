@@ -287,15 +287,15 @@ pub fn write(t: &Table, out: &mut [u8]) -> Result<usize, Reason>
     ensures buffer { out.new ≡ written_to longest most_work t.now out.old }
 {
     if !t.is_sound() {
-        return Err(Reason::Unsound);
+        return field::refused(Reason::Unsound);
     }
     let size = size_of(t);
     if out.len() < size {
-        return Err(Reason::BufferShort);
+        return field::refused(Reason::BufferShort);
     }
     let mut w = Writer { out, at: 0 };
     w.table(t, size as u16);
-    Ok(size)
+    field::whole(size)
 }
 
 /// How many bytes the table takes.

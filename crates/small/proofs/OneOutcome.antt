@@ -1,7 +1,7 @@
--- ONE OUTCOME: any two outcomes that say they are the smaller of two numbers are equal. The code has the library's `min`, which says so of its result. Assumes nothing.
-use mathlib.Core.Path.{◌≡◌}
-use Rattle.std.specs.Prelude.{ℕ, min}
-use Rattle.small.proofs.Outcome.{same}
+-- ONE OUTCOME: any two outcomes that the function's contract allows are equal. Assumes nothing.
+use Prim.Native.Nat.{ℕ}
+use Rattle.small.proofs.Outcome.{One, same}
+use Rattle.small.proofs.least.Reads as least
 
-pub least_one : (a b : ℕ) (x y : ℕ) → x ≡ min a b → y ≡ min a b → x ≡ y
-least_one a b x y p q = same p q
+pub least_one : One {B = ℕ} least.Post (λ κs x e. x)
+least_one κs a x y e f p q = same p q

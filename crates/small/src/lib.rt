@@ -1,6 +1,11 @@
-//! The small words that all crates are written with: specs/Small.antt has the definitions, proofs/ the laws of tests and lists that every proof may cite. There
-//! is no code: the smaller of two numbers, which was here, is the library's `min`.
+//! The small words that all crates are written with: specs/Small.antt has the definitions, proofs/ the laws of tests and lists that every proof may cite.
 #![tactic(auto)]
 
-// A crate has an item.
-const NOTHING: u64 = 0;
+ghost use Rattle.std.specs.Prelude.{◌≡◌, min};
+
+// The smaller of two, for callers that cut a count to what there is.
+pub fn least(a: usize, b: usize) -> usize
+    ensures { result ≡ min a b }
+{
+    a.min(b)
+}

@@ -1,9 +1,6 @@
 -- ONE OUTCOME: any two outcomes that a public function's contract allows are equal. Stated over the contracts themselves: `f.Post κs a r e` is what the
 -- contract of `f` says of the arguments a, the result r and the parameters e as they are at exit. Assumes nothing.
-use mathlib.Core.Path.{◌≡◌}
-use Rattle.std.specs.Prelude.{Bool, ℕ}
 use Rattle.small.proofs.Outcome.{One, same}
-use Rattle.table.specs.Sound.{rangeb}
 use mir.Syntax.{Dict}
 use denote.RattleType.{RattleType}
 use denote.Param.Laws.{Laws}
@@ -20,6 +17,7 @@ use Rattle.table.proofs.Table.zero.Reads as zero-table
 use Rattle.table.proofs.Server.zero.Reads as zero_server_lem
 use Rattle.table.proofs.Task.zero.Reads as zero_task_lem
 use Rattle.table.proofs.in_use.Reads as in-use
+use Rattle.table.proofs.in_range.Reads as in-range
 use Rattle.table.proofs.KindTryFromU8.try_from.Reads as kind-try_from
 use Rattle.table.proofs.ServerPart.is_sound.Reads as server-is_sound
 use Rattle.table.proofs.TaskPart.is_sound.Reads as task-is_sound
@@ -50,6 +48,9 @@ kind_number_one κs a x y e f p q = same p q
 pub kind_try_from_one : One kind-try_from.Post (λ κs x e. x)
 kind_try_from_one κs a x y e f p q = same p q
 
+pub in_range_one : One in-range.Post (λ κs x e. x)
+in_range_one κs a x y e f p q = same p q
+
 pub release_number_one : One release-number.Post (λ κs x e. x)
 release_number_one κs a x y e f p q = same p q
 
@@ -74,7 +75,3 @@ zero_task_one κs a x y e f p q = same p q
 -- over any type of entries T
 pub in_use_one : (T : RattleType) (laws : Laws T) (part : Ghosts T.Denot) (dict : Dict) → One (in-use.Post T laws part dict) (λ κs x e. x)
 in_use_one T laws part dict κs a x y e f p q = same p q
-
--- the same of a test of a range, by what it says: the code has the library's, (least..=most).contains(&x)
-pub in_range_one : (x least most : ℕ) (a b : Bool) → a ≡ rangeb least most x → b ≡ rangeb least most x → a ≡ b
-in_range_one x least most a b p q = same p q

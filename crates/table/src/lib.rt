@@ -8,7 +8,7 @@ ghost use Rattle.queue.specs.Limits.{longest};
 ghost use Rattle.table.specs.Limits.{most_work};
 ghost use Rattle.table.specs.Kinds.{kind_number, kind_of, known_kind};
 ghost use Rattle.table.specs.Table.{release_number, period_of, offset_of, zero_task, zero_server, zero_table};
-ghost use Rattle.table.specs.Sound.{releaseb, taskb, zero_taskb, serverb, zero_serverb, tableb};
+ghost use Rattle.table.specs.Sound.{rangeb, releaseb, taskb, zero_taskb, serverb, zero_serverb, tableb};
 
 use queue::{Distance, Queue};
 use refusal::Reason;
@@ -98,7 +98,7 @@ impl Release {
         match self {
             Release::OnArrival => true,
             Release::Periodic { period, offset } => {
-                (1..=Queue::LONGEST).contains(&period.0) && offset.0 <= Queue::LONGEST
+                in_range(period.0, 1, Queue::LONGEST) && offset.0 <= Queue::LONGEST
             }
         }
     }
@@ -126,6 +126,13 @@ pub struct Server {
 pub struct Table {
     pub servers: [Server; Table::ENTRIES],
     pub count: usize,
+}
+
+// Whether a value is one of the numbers from the least to the most.
+pub fn in_range(x: u32, least: u32, most: u32) -> bool
+    ensures { result ≡ rangeb least most x }
+{
+    (least..=most).contains(&x)
 }
 
 /// An entry of a table: in use its values are in range, and unused it is zero.
@@ -203,8 +210,8 @@ impl Part for Server {
 
     fn is_sound(&self) -> bool {
         self.known_kind().is_some()
-            && (1..=Queue::LONGEST).contains(&self.period.0)
-            && (1..=self.period.0).contains(&self.budget.0)
+            && in_range(self.period.0, 1, Queue::LONGEST)
+            && in_range(self.budget.0, 1, self.period.0)
             && self.count <= Table::ENTRIES
             && in_use(&self.tasks, self.count)
     }
@@ -229,7 +236,7 @@ impl Part for Task {
     ghost zero = { zero_taskb };
 
     fn is_sound(&self) -> bool {
-        (1..=Table::MOST_WORK).contains(&self.work.0) && self.release.is_sound()
+        in_range(self.work.0, 1, Table::MOST_WORK) && self.release.is_sound()
     }
 
     fn is_zero(&self) -> bool {

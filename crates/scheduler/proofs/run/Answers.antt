@@ -30,7 +30,7 @@ loop-i-preserved c =
     let s = c.args.s.now in
     let now = c.loop-i.s in
     let t = c.one_tick.ensures in
-    let few : k < batch_size = omega (arith, c.min-count.ensures, c.loop-i-test.true) in
+    let few : k < batch_size = omega (arith, c.least-count.ensures, c.loop-i-test.true) in
     record {
       ticking = rw t.0 (tick_kept now i.ticking);
       state = t.0 ∙ state_next k s now i.ticking.sound i.state;
@@ -41,8 +41,8 @@ pub returns : goal.returns
 returns c =
     let i = c.loop-i.invariant in
     let s = c.args.s.now in
-    let n : c.loop-i.i ≡ ticks_in c.args.k = omega (arith, c.min-count.ensures, c.loop-i-test.false, c.loop-i.auto.i-end) in
+    let n : c.loop-i.i ≡ ticks_in c.args.k = omega (arith, c.least-count.ensures, c.loop-i-test.false, c.loop-i.auto.i-end) in
     let sound = checked_ok s c.in_ok-checked.ensures.outcome in
     let a = i.answers ∙ ap (λ (n : ℕ). answers_in n s) n in
     let e = i.state ∙ ap (λ (n : ℕ). state_after_ticks n s) n in
-    (λ d. record { answers = a d; state = e d; refusal = none; count = c.min-count.ensures d }) ∙ sym (run_done s c.args.k ((run_accepted s c.args.k).1 sound))
+    (λ d. record { answers = a d; state = e d; refusal = none; count = c.least-count.ensures d }) ∙ sym (run_done s c.args.k ((run_accepted s c.args.k).1 sound))

@@ -54,15 +54,13 @@ pub fn ticks(out: &mut [u8], at: usize, first: u32, answers: &[Answer]) -> Resul
     ensures buffer { out.new ≡ over at (answer_lines first (length answers.now) answers.now) out.old }
 {
     if !have_room(out, at, first, answers) {
-        return Err(Reason::BufferShort);
+        return field::refused(Reason::BufferShort);
     }
-    let mut text = Text::new();
     let mut p = at;
     for (i, answer) in answers.iter().enumerate() {
-        text.tick(first as u64 + i as u64, answer.choice);
-        p = copy(out, p, text.as_slice());
+        p = tick(out, p, first as u64 + i as u64, answer.choice);
     }
-    Ok(p - at)
+    field::whole(p - at)
 }
 
 // `end` and the number of ticks.
@@ -87,9 +85,9 @@ fn put(out: &mut [u8], at: usize, text: &[u8]) -> Result<usize, Reason>
 {
     if fits(out, at, text.len()) {
         copy(out, at, text);
-        Ok(text.len())
+        field::whole(text.len())
     } else {
-        Err(Reason::BufferShort)
+        field::refused(Reason::BufferShort)
     }
 }
 
@@ -97,17 +95,6 @@ fn fits(out: &[u8], at: usize, n: usize) -> bool
     ensures { result ≡ leb (at + n) (length out.now) }
 {
     at <= out.len() && n <= out.len() - at
-}
-
-// The text, where there is room for it; the place behind it. `copy_from_slice` says it of a part of the buffer, and this of the whole one.
-fn copy(out: &mut [u8], at: usize, text: &[u8]) -> usize
-    requires { at + length text.now ≤ length out.old }
-    ensures answer { result ≡ at + length text.now }
-    ensures buffer { out.new ≡ over at text.now out.old }
-{
-    let end = at + text.len();
-    out[at..end].copy_from_slice(text);
-    end
 }
 
 // Whether the lines of the answers have room in the buffer from the place on: how long they are is looked at only where there might be none.
@@ -120,11 +107,10 @@ fn have_room(out: &[u8], at: usize, first: u32, answers: &[Answer]) -> bool
     if answers.len() <= left / ROOM {
         return true;
     }
-    let mut text = Text::new();
+    let mut line = [0; ROOM];
     let mut rest = left;
     for (i, answer) in answers.iter().enumerate() {
-        text.tick(first as u64 + i as u64, answer.choice);
-        let n = text.as_slice().len();
+        let n = tick(&mut line, 0, first as u64 + i as u64, answer.choice);
         if rest < n {
             return false;
         }
@@ -133,7 +119,111 @@ fn have_room(out: &[u8], at: usize, first: u32, answers: &[Answer]) -> bool
     true
 }
 
-// THE TEXT OF A LINE, before it is known whether the line fits: at most as many bytes as a line takes. No heap, so no String; and by hand, not by `write!`,
+// PIECES, each put where there is room for it; the place behind it is answered. Straight into the lent buffer, with no row of their own between: the program
+// writes a line for every tick.
+
+// The text. `copy_from_slice` says it of a part of the buffer, and this of the whole one.
+fn copy(out: &mut [u8], at: usize, text: &[u8]) -> usize
+    requires { at + length text.now ≤ length out.old }
+    ensures answer { result ≡ at + length text.now }
+    ensures buffer { out.new ≡ over at text.now out.old }
+{
+    let end = at + text.len();
+    out[at..end].copy_from_slice(text);
+    end
+}
+
+#[tactic(auto, using(crate::proofs::Pieces::over_byte))]
+fn byte(out: &mut [u8], at: usize, b: u8) -> usize
+    requires { at < length out.old }
+    ensures answer { result ≡ at + 1 }
+    ensures buffer { out.new ≡ over at (b ∷ []) out.old }
+{
+    out[at] = b;
+    at + 1
+}
+
+// A space and a number of a byte, which is mostly one digit.
+fn mark(out: &mut [u8], at: usize, n: u8) -> usize
+    requires { at + length (mark_text n) ≤ length out.old }
+    ensures answer { result ≡ at + length (mark_text n) }
+    ensures buffer { out.new ≡ over at (mark_text n) out.old }
+{
+    out[at] = b' ';
+    if n <= 9 {
+        out[at + 1] = b'0' + n;
+        at + 2
+    } else {
+        number(out, at + 1, n as u64)
+    }
+}
+
+// The decimal digits of n, with no leading zero. The last is found first, so they are counted before.
+fn number(out: &mut [u8], at: usize, n: u64) -> usize
+    requires { at + length (decimal n) ≤ length out.old }
+    ensures answer { result ≡ at + length (decimal n) }
+    ensures buffer { out.new ≡ over at (decimal n) out.old }
+{
+    let end = at + places(n);
+    let mut rest = n;
+    for i in (at..end).rev() {
+        out[i] = b'0' + (rest % 10) as u8;
+        rest /= 10;
+    }
+    end
+}
+
+// How many digits n has.
+fn places(n: u64) -> usize
+    ensures { result ≡ length (decimal n) }
+{
+    let mut least: u64 = 10;
+    for k in 1..MOST_DIGITS - 1 {
+        if n < least {
+            return k;
+        }
+        least *= 10;
+    }
+    if n < least {
+        MOST_DIGITS - 1
+    } else {
+        MOST_DIGITS
+    }
+}
+
+// The line of one tick: its number, the server and the task. Inlined, with its parts, where the lines of a batch are written.
+#[inline(always)]
+fn tick(out: &mut [u8], at: usize, n: u64, c: Choice) -> usize
+    requires { at + length (tick_line n c) ≤ length out.old }
+    ensures answer { result ≡ at + length (tick_line n c) }
+    ensures buffer { out.new ≡ over at (tick_line n c) out.old }
+{
+    let p = number(out, at, n);
+    choice(out, p, c)
+}
+
+// Two dashes where the tick was idle; else the server, and the task or a dash.
+#[inline(always)]
+fn choice(out: &mut [u8], at: usize, c: Choice) -> usize
+    requires { at + length (choice_text c) ≤ length out.old }
+    ensures answer { result ≡ at + length (choice_text c) }
+    ensures buffer { out.new ≡ over at (choice_text c) out.old }
+{
+    match c {
+        Choice::Idle => copy(out, at, b" - -\n"),
+        Choice::Burning(server) => {
+            let p = mark(out, at, server);
+            copy(out, p, b" -\n")
+        }
+        Choice::Running(server, task) => {
+            let p = mark(out, at, server);
+            let q = mark(out, p, task);
+            byte(out, q, b'\n')
+        }
+    }
+}
+
+// THE TEXT OF A MESSAGE, before it is known whether its line fits: at most as many bytes as a line takes. No heap, so no String; and by hand, not by `write!`,
 // which says what it wrote only where it succeeds, and does not say that it succeeds where there is room.
 
 #[derive(Drop)]
@@ -176,7 +266,7 @@ impl From<Line> for Text {
     }
 }
 
-#[tactic(auto, using(crate::proofs::Lengths::lengths))]
+#[tactic(auto, using(crate::proofs::Lengths::lengths, crate::proofs::Pieces::text_more))]
 impl Text {
     fn new() -> Text
         ensures { result ≡ [] }
@@ -193,77 +283,31 @@ impl Text {
         &self.bytes[..self.len]
     }
 
-    // The line of one tick, in the place of what was there: its number, the server and the task.
-    fn tick(&mut self, n: u64, c: Choice)
-        ensures { self.new ≡ tick_line n c }
-    {
-        self.len = 0;
-        self.number(n);
-        self.choice(c);
-    }
-
-    fn choice(&mut self, c: Choice)
-        requires { length self.old ≤ 20 }
-        ensures { self.new ≡ self.old ++ choice_text c }
-    {
-        match c {
-            Choice::Idle => self.word(b" - -"),
-            Choice::Burning(server) => {
-                self.mark(server);
-                self.word(b" -");
-            }
-            Choice::Running(server, task) => {
-                self.mark(server);
-                self.mark(task);
-            }
-        }
-        self.byte(b'\n');
-    }
-
     fn byte(&mut self, b: u8)
         requires { length self.old < room }
         ensures { self.new ≡ self.old ++ b ∷ [] }
     {
-        self.bytes[self.len] = b;
-        self.len += 1;
+        self.len = byte(&mut self.bytes, self.len, b);
     }
 
     fn word(&mut self, s: &[u8])
         requires { length self.old + length s.now ≤ room }
         ensures { self.new ≡ self.old ++ s.now }
     {
-        let end = self.len + s.len();
-        self.bytes[self.len..end].copy_from_slice(s);
-        self.len = end;
+        self.len = copy(&mut self.bytes, self.len, s);
     }
 
-    // A space and a number of a byte, which is mostly one digit.
     fn mark(&mut self, n: u8)
         requires { length self.old + length (mark_text n) ≤ room }
         ensures { self.new ≡ self.old ++ mark_text n }
     {
-        self.byte(b' ');
-        if n <= 9 {
-            self.byte(b'0' + n);
-        } else {
-            self.number(n as u64);
-        }
+        self.len = mark(&mut self.bytes, self.len, n);
     }
 
-    // The decimal digits of n, with no leading zero. The last is found first, and how many there are only then: no `for` counts them.
     fn number(&mut self, n: u64)
         requires { length self.old + length (decimal n) ≤ room }
         ensures { self.new ≡ self.old ++ decimal n }
     {
-        let mut digits = [0; MOST_DIGITS];
-        let mut at = MOST_DIGITS - 1;
-        let mut rest = n;
-        while 9 < rest {
-            digits[at] = b'0' + (rest % 10) as u8;
-            at -= 1;
-            rest /= 10;
-        }
-        digits[at] = b'0' + rest as u8;
-        self.word(&digits[at..]);
+        self.len = number(&mut self.bytes, self.len, n);
     }
 }

@@ -1,4 +1,4 @@
-use mathlib.Core.Path.{◌≡◌, refl, sym, ◌∙◌}
+use mathlib.Core.Path.{◌≡◌, sym, ◌∙◌}
 use Prim.Native.Nat.{◌+◌, ◌-◌, ◌≤◌}
 use native.Mathlib.Nat.{add-zero}
 use native.Mathlib.Numerals.{add-one}
@@ -25,25 +25,24 @@ pub loop-i-init : goal.loop-i-init
 loop-i-init c =
     (sym (add-zero c.args.at), sym (over_nil c.args.at c.args.out.now (omega (arith, room (goal.at.loop-i-init c).Else-not-have_room))))
 
-pub copy-p-requires : goal.copy-p-requires
-copy-p-requires c =
+pub tick-p-requires : goal.tick-p-requires
+tick-p-requires c =
     let l = c.loop-i in
     let xs = c.args.answers.now in
     let next = lines_next c.args.first l.i (length xs) xs zero_answer (omega arith) (omega arith) in
-    rw (c.as_slice.ensures, c.tick.ensures) (omega (arith, l.invariant.0, l.auto.out, next, room (goal.at.copy-p-requires c).Else-not-have_room))
+    omega (arith, l.invariant.0, l.auto.out, next, room (goal.at.tick-p-requires c).Else-not-have_room)
 
 pub loop-i-preserved : goal.loop-i-preserved
 loop-i-preserved c =
     let l = c.loop-i in
     let xs = c.args.answers.now in
     let next = lines_next c.args.first l.i (length xs) xs zero_answer (omega arith) (omega arith) in
-    let line = c.as_slice.ensures ∙ c.tick.ensures in
     rw (add-one, lines_more c.args.first l.i xs zero_answer (omega arith))
     (puts_two c.args.at _ _ c.args.out.now (omega (arith, room (goal.at.loop-i-preserved c).Else-not-have_room, next)) l.invariant
-    (rw line at (c.copy-p.ensures.answer), rw line at (c.copy-p.ensures.buffer)))
+    (c.tick-p.ensures.answer, c.tick-p.ensures.buffer))
 
-pub overflow_sub-result : goal.overflow_sub-result
-overflow_sub-result c =
+pub overflow_sub-p : goal.overflow_sub-p
+overflow_sub-p c =
     omega (arith, c.loop-i.invariant.0)
 
 pub returns-clause-answer : goal.returns-clause-answer
@@ -52,7 +51,7 @@ returns-clause-answer c =
     let e : l.i ≡ length c.args.answers.now = omega arith in
     let p = rw e at l.invariant in
     let n : l.p - c.args.at ≡ length (answer_lines c.args.first (length c.args.answers.now) c.args.answers.now) = omega (arith, p.0) in
-    rw (le-ltb (length c.args.out.now) _ (room (goal.at.returns-clause-answer c).Else-not-have_room), ← n) refl
+    rw (le-ltb (length c.args.out.now) _ (room (goal.at.returns-clause-answer c).Else-not-have_room), ← n) c.whole.ensures
 
 pub returns-clause-buffer : goal.returns-clause-buffer
 returns-clause-buffer c =

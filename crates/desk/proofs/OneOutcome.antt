@@ -14,8 +14,8 @@ use Rattle.desk.proofs.Desk.run_on.Reads as run_on
 pub open_one : One opens.Post (λ κs x e. x)
 open_one κs a x y e f p q = opened_one x y (same p q)
 
-pub message_one : One {B = Result Line Reason × Desk} message.Post (λ κs x e. (x, e.0.now))
-message_one κs a x y e f p q = met_one _ x y _ _ (same p q)
+pub message_one : One {B = Result Line Line × Desk} message.Post (λ κs x e. (x, e.0.now))
+message_one κs a x y e f p q = met_one x y _ _ (same p q)
 
 pub run_on_one : One {B = Result Ran Reason × Desk} run_on.Post (λ κs x e. (x, e.0.now))
 run_on_one κs a x y e f p q = ran_one x y _ _ (same p q)

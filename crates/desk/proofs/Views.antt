@@ -36,7 +36,7 @@ use Rattle.scheduler.proofs.Refusals.{arrive_31, run_accepted}
 use Rattle.scheduler.proofs.Unchanged.{arrive_unchanged}
 use Rattle.lines.specs.declared.Line.{Line}
 use Rattle.lines.specs.declared.Line.TheVariants.{Nothing, Refused, Lost}
-use Rattle.desk.specs.Desk.{Opened, Met, RanOn, tick_limit, desk_with, met, open_of, arrived_of, sound_first, message_of, ran_with, not_run, ran_of, opened_by, met_by, ran_by, sound_of}
+use Rattle.desk.specs.Desk.{Opened, Met, RanOn, tick_limit, desk_with, met, open_of, arrived_of, sound_first, message_of, ran_with, not_run, ran_of, opened_by, met_by, decided_by, ran_by, sound_of}
 use Rattle.desk.specs.Meaning.{line_number}
 use Rattle.desk.specs.declared.Desk.{Desk}
 use Rattle.desk.specs.declared.Ran.{Ran}
@@ -49,11 +49,11 @@ reason_there : (r : Reason) → number_of r ≢ 0
 reason_there r e = absurd (let h = refusal_in_one (Ok tt) (Err r) (λ i. refused (sym e i) 0) in cc)
 
 -- a message's outcome, and the run after it
-pub met_one : (k : ℕ) (a b : Result Line Reason) (d e : Desk) → met_by k a d ≡ met_by k b e → ◌≡◌ {A = Result Line Reason × Desk} (a, d) (b, e)
-met_one k (Ok l) (Ok m) d e h = λ i. (Ok (h i).line, (h i).desk)
-met_one k (Ok l) (Err s) d e h = absurd (let g = ap (λ (x : Met). x.stop) h in cc)
-met_one k (Err r) (Ok m) d e h = absurd (let g = ap (λ (x : Met). x.stop) h in cc)
-met_one k (Err r) (Err s) d e h = let g = number_one r s (ap (λ (x : Met). line_number x.line) h) in λ i. (Err (g i), (h i).desk)
+pub met_one : (a b : Result Line Line) (d e : Desk) → met_by a d ≡ met_by b e → ◌≡◌ {A = Result Line Line × Desk} (a, d) (b, e)
+met_one (Ok l) (Ok m) d e h = λ i. (Ok (h i).line, (h i).desk)
+met_one (Ok l) (Err m) d e h = absurd (let g = ap (λ (x : Met). x.stop) h in cc)
+met_one (Err l) (Ok m) d e h = absurd (let g = ap (λ (x : Met). x.stop) h in cc)
+met_one (Err l) (Err m) d e h = λ i. (Err (h i).line, (h i).desk)
 
 -- a batch's
 pub ran_one : (a b : Result Ran Reason) (d e : Desk) → ran_by a d ≡ ran_by b e → ◌≡◌ {A = Result Ran Reason × Desk} (a, d) (b, e)
@@ -109,10 +109,10 @@ module _ (bs : List ℕ) where
 -- A MESSAGE
 
 module _ (d : Desk) (k : ℕ) (bs : List ℕ) where
-  pub met_unsound : {r : Reason} → sound_of d ≡ Err r → met_by k (Err r) d ≡ message_of d k bs
+  pub met_unsound : {r : Reason} → sound_of d ≡ Err r → decided_by k (Err r) d ≡ message_of d k bs
   met_unsound e = let (s, h) = sound_err d e in sym (message_unsound d k bs s ∙ ap (λ (x : Reason). met d (Refused (number_of x) k) true) h)
 
-  pub met_unread : (r : Reason) → reading_by (Err r) ≡ read_of bs → stateb d.state ≡ true → met_by k (Err r) d ≡ message_of d k bs
+  pub met_unread : (r : Reason) → reading_by (Err r) ≡ read_of bs → stateb d.state ≡ true → decided_by k (Err r) d ≡ message_of d k bs
   met_unread r e s =
       let n = ap (λ (x : Reading). x.refusal.number) e in
       sym (message_unread d k bs s (λ z. reason_there r (n ∙ z)) ∙ ap (λ (m : ℕ). met d (Refused m k) true) (sym n))

@@ -120,10 +120,15 @@ abbrev pub opened_by : Result Desk Fault → Opened
 opened_by (Ok d) = record { desk = d; refusal = none }
 opened_by (Err f) = record { desk = desk_with (empty_state zero_table) 0 0; refusal = refusal_at f }
 
--- of the message at k, and the run after it: an error is the line that it is refused, and the program stops
-abbrev pub met_by : ℕ → Result Line Reason → Desk → Met
-met_by k (Ok l) d = met d l false
-met_by k (Err r) d = met d (Refused (number_of r) k) true
+-- of a message, and the run after it: an error is the line behind which the program stops
+abbrev pub met_by : Result Line Line → Desk → Met
+met_by (Ok l) d = met d l false
+met_by (Err l) d = met d l true
+
+-- before the line of a refusal is made, which names the message's place k
+abbrev pub decided_by : ℕ → Result Line Reason → Desk → Met
+decided_by k (Ok l) d = met d l false
+decided_by k (Err r) d = met d (Refused (number_of r) k) true
 
 -- of a batch, and the run after it
 abbrev pub ran_by : Result Ran Reason → Desk → RanOn

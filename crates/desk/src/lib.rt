@@ -2,7 +2,7 @@
 #![tactic(auto)]
 
 ghost use Rattle.std.specs.Prelude.{◌≡◌};
-ghost use Rattle.desk.specs.Desk.{open_of, opened_by, arrived_of, sound_first, message_of, met_by, ran_of, ran_by, sound_of};
+ghost use Rattle.desk.specs.Desk.{open_of, opened_by, arrived_of, sound_first, message_of, met_by, decided_by, ran_of, ran_by, sound_of};
 
 use lines::Line;
 use message::Message;
@@ -44,26 +44,14 @@ impl Desk {
         })
     }
 
-    // A message whose first byte stands at a place of the input; fewer than six bytes where the input ends in it. The line that it writes, or why the program
-    // stops there: with the line that it is refused at the place. Whether the state is sound is looked at once: by the scheduler for an arrival, and here for
-    // any other message.
-    pub fn message(&mut self, place: u64, bytes: &[u8]) -> Result<Line, Reason>
-        ensures { met_by place result self.new ≡ message_of self.old place bytes.now }
+    // A message whose first byte stands at a place of the input; fewer than six bytes where the input ends in it. The line that it writes; as an error, the line
+    // that it is refused there, behind which the program stops.
+    pub fn message(&mut self, place: u64, bytes: &[u8]) -> Result<Line, Line>
+        ensures { met_by result self.new ≡ message_of self.old place bytes.now }
     {
-        match message::read(bytes) {
-            Ok(Message::Run(n)) => {
-                self.sound()?;
-                if Desk::LIMIT < self.ran as u64 + self.left as u64 + n as u64 {
-                    return Err(Reason::TicksPassed);
-                }
-                self.left += n as u32;
-                Ok(Line::Nothing)
-            }
-            Ok(Message::Arrival(server, task)) => self.arrive(server, task, place),
-            Err(reason) => {
-                self.sound()?;
-                Err(reason)
-            }
+        match self.decide(place, bytes) {
+            Ok(line) => Ok(line),
+            Err(reason) => Err(Line::Refused(reason.number(), place)),
         }
     }
 
@@ -87,9 +75,31 @@ impl Desk {
         })
     }
 
+    // What a message comes to: its line, or why the program stops there. Whether the state is sound is looked at once: by the scheduler for an arrival, and here
+    // for any other message.
+    fn decide(&mut self, place: u64, bytes: &[u8]) -> Result<Line, Reason>
+        ensures { decided_by place result self.new ≡ message_of self.old place bytes.now }
+    {
+        match message::read(bytes) {
+            Ok(Message::Run(n)) => {
+                self.sound()?;
+                if Desk::LIMIT < self.ran as u64 + self.left as u64 + n as u64 {
+                    return Err(Reason::TicksPassed);
+                }
+                self.left += n as u32;
+                Ok(Line::Nothing)
+            }
+            Ok(Message::Arrival(server, task)) => self.arrive(server, task, place),
+            Err(reason) => {
+                self.sound()?;
+                Err(reason)
+            }
+        }
+    }
+
     // A task's work arrives. What the scheduler refuses is a line and no stop, but for a state that is not sound.
     fn arrive(&mut self, server: u8, task: u8, place: u64) -> Result<Line, Reason>
-        ensures { met_by place result self.new ≡ sound_first self.old place (arrived_of self.old server task place) }
+        ensures { decided_by place result self.new ≡ sound_first self.old place (arrived_of self.old server task place) }
     {
         match scheduler::arrive(&mut self.state, server, task) {
             Ok(Arrival::Accepted) => Ok(Line::Nothing),

@@ -48,7 +48,7 @@ struct Output<'a, P: Print> {
 impl<P: Print> Output<'_, P> {
     // Writes out what the buffer holds.
     fn flush(&mut self) -> io::Result<()> {
-        let end = self.at.min(OUTPUT);
+        let end = small::least(self.at, OUTPUT);
         self.rt.write_all(&self.buffer[..end])?;
         self.at = 0;
         Ok(())
@@ -74,12 +74,16 @@ impl<P: Print> Output<'_, P> {
         Ok(())
     }
 
-    // Writes out what the buffer holds and a refusal's line behind it: the program's last.
-    fn refuse(&mut self, reason: Reason, place: u64) -> Result<(), Stop> {
-        let line = Line::Refused(reason.number(), place);
+    // Writes out what the buffer holds and a line behind it: the program's last.
+    fn last(&mut self, line: Line) -> Result<(), Stop> {
         self.put(|out, at| lines::message_line(out, at, line))?;
         self.flush()?;
         Err(Stop::Refused)
+    }
+
+    // The line of a setup or of a batch that is refused. A message's is the desk's own.
+    fn refuse(&mut self, reason: Reason, place: u64) -> Result<(), Stop> {
+        self.last(Line::Refused(reason.number(), place))
     }
 
     // The message at a place, and then its ticks, batch after batch.
@@ -87,7 +91,7 @@ impl<P: Print> Output<'_, P> {
         self.spare()?;
         match desk.message(place, bytes) {
             Ok(line) => self.put(|out, at| lines::message_line(out, at, line))?,
-            Err(reason) => return self.refuse(reason, place),
+            Err(line) => return self.last(line),
         }
         // how many ticks a batch has is the desk's to say: no range is walked
         while 0 < desk.left {
@@ -97,7 +101,7 @@ impl<P: Print> Output<'_, P> {
                     out,
                     at,
                     ran.first,
-                    &ran.answers[..ran.count.min(State::BATCH)],
+                    &ran.answers[..small::least(ran.count, State::BATCH)],
                 ))?,
                 Err(reason) => return self.refuse(reason, place),
             }
@@ -119,7 +123,7 @@ fn read_setup<'a>(reader: &mut impl Read, input: &'a mut [u8; INPUT]) -> &'a [u8
     let head = console::read_full(reader, &mut input[..2]);
     let stated = usize::from(field::read::<u16>(input, 0));
     if head < 2 || stated < 2 {
-        return &input[..head.min(stated)];
+        return &input[..small::least(head, stated)];
     }
     let rest = console::read_full(reader, &mut input[2..stated]);
     &input[..2 + rest]

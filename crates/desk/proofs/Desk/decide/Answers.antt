@@ -1,4 +1,4 @@
--- `desk::Desk::message` meets its contract: what the reader answers decides what is done, once the state is found sound. Assumes nothing.
+-- `desk::Desk::decide` meets its contract: what the reader answers decides what is done, once the state is found sound. Assumes nothing.
 use mathlib.Core.Path.{sym, ap, ◌∙◌}
 use Rattle.std.proofs.lemmas.Result.{err_from_is_err_and}
 use Rattle.message.specs.Message.{read_with}
@@ -6,7 +6,7 @@ use Rattle.message.specs.declared.Message.{Message}
 use Rattle.refusal.specs.Refusal.{none}
 use Rattle.desk.proofs.Cases.{message_past, message_runs}
 use Rattle.desk.proofs.Views.{sound_ok, met_unsound, met_unread, met_arrival}
-use Rattle.desk.proofs.Desk.message.Goals as goal
+use Rattle.desk.proofs.Desk.decide.Goals as goal
 
 pub returns-in_err-sound-in-Ok-Run : goal.returns-in_err-sound-in-Ok-Run
 returns-in_err-sound-in-Ok-Run c =

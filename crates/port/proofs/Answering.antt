@@ -41,7 +41,6 @@ use Rattle.scheduler.proofs.Refusals.{arrive_accepted}
 use Rattle.scheduler.proofs.Keeps.{ticked_sound, arrive_sound, tick_sound_accepted}
 use Rattle.port.specs.Layout.{word_limit}
 use Rattle.port.specs.Words.{table_in, state_in, state_words, TableFits, StateFits}
-use Rattle.port.specs.Exports.{held_fresh}
 use Rattle.port.proofs.Storing.{some_reason}
 use Rattle.port.proofs.Sizing.{table_in_full, full_sized, state_in_sized}
 use Rattle.port.proofs.Ranges.{table_fits, state_fits}
@@ -59,22 +58,21 @@ module _ (bs : List ℕ) where
 pub fresh_gives : (t : Table) → tableb longest most_work t ≡ true → stateb (fresh_of t).state ≡ true
 fresh_gives t h = rw (fresh_made t h) (fresh_sound t h)
 
--- so that of an accepted setup is made, fits into words, and is what the memory then holds
-module _ (bs : List ℕ) (t : Table) (e : reading_by (Ok t) ≡ read_of longest most_work bs) where
+-- so that of a sound table is made, fits into words, and is what the memory then holds
+module _ (t : Table) (sound : tableb longest most_work t ≡ true) (sized : Sized t) where
   made : fresh_of t ≡ made_with none (fresh_state t)
-  made = fresh_made t (read_sound bs t e).0
+  made = fresh_made t sound
 
   pub fresh_fits : (r : Result State Reason) → made_by t r ≡ fresh_of t → IfOk r StateFits
   fresh_fits (Ok s) k =
-      let h = read_sound bs t e in
       let same : s ≡ fresh_state t = ap (λ (m : Made). m.state) (k ∙ made) in
-      rw same (state_fits (fresh_state t) (fresh_sized t h.1) (fresh_sound t h.0))
+      rw same (state_fits (fresh_state t) (fresh_sized t sized) (fresh_sound t sound))
   fresh_fits (Err r) k = tt
 
   pub fresh_stored : (r : Result State Reason) → made_by t r ≡ fresh_of t → (x : Refusal) (new old : List ℕ)
       → MatchResult r (λ s. (x ≡ none) × (new ≡ state_words s)) (λ q. (x ≡ refusal_by q) × (new ≡ old))
-      → (x ≡ (read_of longest most_work bs).refusal) × (new ≡ held_fresh (read_of longest most_work bs) old)
-  fresh_stored (Ok s) k x new old h = rw (← e) (h.0, h.1 ∙ ap (λ (m : Made). state_words m.state) k)
+      → (x ≡ none) × (new ≡ state_words (fresh_of t).state)
+  fresh_stored (Ok s) k x new old h = (h.0, h.1 ∙ ap (λ (m : Made). state_words m.state) k)
   fresh_stored (Err q) k x new old h = absurd (some_reason q (ap (λ (m : Made). m.refusal.number) (k ∙ made)))
 
 -- and that of an accepted tick and of an accepted arrival

@@ -5,10 +5,12 @@ use mathlib.Core.List.{List, [], ◌∷◌, ◌++◌, append_assoc}
 use Prim.Native.Nat.{ℕ, zero, suc, ◌+◌, ◌-◌, ◌*◌, ◌≤◌, ◌<◌}
 use native.Mathlib.Nat.{mul-zero, mul-suc, add_comm, not-suc-le-zero}
 use native.Mathlib.Omega.{arith}
-use lib.ListN.{length, take, drop, get_or, length-append, length-drop}
+use lib.ListN.{length, take, drop, get_or, set, length-append, length-drop, length-set}
 use borrow.Rule.Slice.PartMut.{put_mid}
 use lib.Seq.{take_at, take_all, take-add, drop_at, drop-drop}
-use Rattle.std.proofs.lemmas.List.{ext_get_or}
+use mathlib.Core.Logic.{⊎_elim}
+use Rattle.std.proofs.Math.Nat.{eq-or-lt_of_le}
+use Rattle.std.proofs.lemmas.List.{ext_get_or, set_split, get_or-set_same, get_or-set_other}
 use Rattle.small.specs.Small.{each, All}
 use Rattle.small.proofs.Each.{each_more}
 use Rattle.port.specs.Words.{many_in}
@@ -43,6 +45,24 @@ module _ {A : Type 0} (size : ℕ) (g : List ℕ → A) where
       ext_get_or x (x ∷ xs) (many_in size g (suc n) ws) (l ∙ sym (many_count (suc n) ws))
       (λ i k. h i x (omega arith) ∙ sym (many_at (suc n) i ws x (omega arith)))
 
+  -- A loop that reads n things one by one: before the one at i, those before it are the ones that the words hold
+  pub record Held (n : ℕ) (ws : List ℕ) (i : ℕ) (xs : List A) : Type 0 where
+    pub long : length xs ≡ n
+    pub each : (k : ℕ) (z : A) → k < i → get_or xs k z ≡ g (drop (size * k) ws)
+
+  -- the one at i is read
+  pub held_more : {n : ℕ} {ws : List ℕ} {i : ℕ} {xs : List A} → Held n ws i xs → (x : A) → i < n → x ≡ g (drop (size * i) ws) → Held n ws (i + 1) (set xs i x)
+  held_more {n} {ws} {i} {xs} s x h e = record {
+    long = rw length-set s.long;
+    each = λ k z l. ⊎_elim
+        (λ (c : k ≡ i). rw c (get_or-set_same xs i x z (omega (arith, s.long)) ∙ e))
+        (λ (c : k < i). get_or-set_other xs i k x z (λ (q : k ≡ i). omega (arith, q, c)) ∙ s.each k z c)
+        (eq-or-lt_of_le (omega arith));
+  }
+
+  pub held_all : (n : ℕ) (ws : List ℕ) (i : ℕ) (xs : List A) → n ≤ i → Held n ws i xs → xs ≡ many_in size g n ws
+  held_all n ws i xs h s = many_is n ws xs s.long (λ k z l. s.each k z (omega arith))
+
 -- WRITING
 
 -- A loop that writes the words of the things xs, each of the size, over a buffer: before the one at i, those of the first i are written, and so many words
@@ -68,6 +88,12 @@ module _ {A : Type 0} {f : A → List ℕ} {size : ℕ} {xs : List A} {buf : Lis
         words = rw (p.words, q, r, n, front, behind, more) (sym (append_assoc before (f x) _));
         long = rw (more, length-append, p.long, ← n, l, next);
       }
+
+-- one word stored is a part of one word put
+pub set_mid : (xs : List ℕ) (i y : ℕ) → i < length xs → set xs i y ≡ put_mid i 1 xs (y ∷ [])
+set_mid xs i y h =
+    let one : i + 1 ≡ suc i = omega arith in
+    set_split xs i y h ∙ rw (drop-drop, one) refl
 
 -- WRITTEN, THEN READ
 

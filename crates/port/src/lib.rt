@@ -5,7 +5,7 @@
 
 mod words;
 
-ghost use Rattle.std.specs.Prelude.{◌≡◌, [], ◌∷◌, ◌<◌, length, Result, IfOk, MatchResult};
+ghost use Rattle.std.specs.Prelude.{◌≡◌, [], ◌∷◌, ◌<◌, true, length, Result, IfOk, MatchResult};
 ghost use Rattle.std.specs.Fn.{FnOnceReturnsAtMut};
 ghost use Rattle.refusal.specs.Refusal.{none};
 ghost use Rattle.refusal.specs.Reason.{refusal_in};
@@ -16,16 +16,19 @@ ghost use Rattle.queue.specs.Row.{queue_of};
 ghost use Rattle.queue.specs.Sound.{soundb};
 ghost use Rattle.queue.specs.Calls.{insert_of, remove_of, time_left_of, clock_of, take_of, push_back_of};
 ghost use Rattle.table.specs.Limits.{most_work};
+ghost use Rattle.table.specs.Sound.{tableb};
+ghost use Rattle.table.specs.Meaning.{Sized};
 ghost use Rattle.setup.specs.Read.{read_of as setup_of};
 ghost use Rattle.setup.specs.Write.{write_refusal, written_to};
 ghost use Rattle.message.specs.Message.{read_of, raw_bytes};
 ghost use Rattle.message.specs.Message.{write_refusal as message_refusal};
 ghost use Rattle.state.specs.State.{entry_at, load_at};
+ghost use Rattle.state.specs.Fresh.{fresh_of};
 ghost use Rattle.state.specs.Sound.{stateb};
 ghost use Rattle.scheduler.specs.Arrive.{arrival_number, arrive_of};
 ghost use Rattle.scheduler.specs.Tick.{tick_of};
 ghost use Rattle.port.specs.Layout.{word_limit};
-ghost use Rattle.port.specs.Words.{queue_in, queue_words, table_in, state_in};
+ghost use Rattle.port.specs.Words.{queue_in, queue_words, table_in, state_in, state_words};
 ghost use Rattle.port.specs.Exports.{answer_words, budget_refusal, load_refusal, message_words};
 ghost use Rattle.port.specs.Exports.{held_queue, held_distance, held_rest, held_id, held_state, held_answer, held_arrived, held_lost};
 ghost use Rattle.port.specs.Exports.{held_budget, held_load, held_table, held_fresh, held_length, held_message};
@@ -45,14 +48,14 @@ use words::{QUEUE, STATE, TABLE, Words};
 pub extern "C" fn ribascenzo_queue_empty(q: &mut [u32; QUEUE])
     ensures { q.new ≡ queue_words (queue_of []) }
 {
-    Queue::empty().put(q);
+    *q = [0; QUEUE];
 }
 
 #[unsafe(no_mangle)]
 pub extern "C" fn ribascenzo_queue_sound(q: &[u32; QUEUE]) -> bool
     ensures { result ≡ soundb max_gap longest (queue_in q.now) }
 {
-    Queue::read(q).is_sound()
+    words::held::<Queue>(q).is_sound()
 }
 
 #[unsafe(no_mangle)]
@@ -80,7 +83,10 @@ pub extern "C" fn ribascenzo_queue_time_left(
     ensures refusal { result ≡ (time_left_of max_gap longest (queue_in q.now) id).refusal }
     ensures distance { distance.new ≡ held_distance (time_left_of max_gap longest (queue_in q.now) id) distance.old }
 {
-    store(Queue::read(q).time_left(id).map(distance_words), distance)
+    store(
+        words::held::<Queue>(q).time_left(id).map(distance_words),
+        distance,
+    )
 }
 
 #[unsafe(no_mangle)]
@@ -124,7 +130,7 @@ pub extern "C" fn ribascenzo_fresh(s: &mut [u32; STATE], setup: &[u8]) -> Refusa
     ensures state { s.new ≡ held_fresh (setup_of longest most_work setup.now) s.old }
 {
     match setup::read(setup) {
-        Ok(table) => store(State::fresh(&table), s),
+        Ok(table) => begin(&table, s),
         Err(fault) => fault.into(),
     }
 }
@@ -134,7 +140,7 @@ pub extern "C" fn ribascenzo_fresh(s: &mut [u32; STATE], setup: &[u8]) -> Refusa
 pub extern "C" fn ribascenzo_sound(s: &[u32; STATE]) -> bool
     ensures { result ≡ stateb (state_in s.now) }
 {
-    State::read(s).is_sound()
+    words::held::<State>(s).is_sound()
 }
 
 #[unsafe(no_mangle)]
@@ -212,7 +218,7 @@ pub extern "C" fn ribascenzo_setup_write(
     ensures length { written.new ≡ held_length (table_in table.now) (length out.old) written.old }
 {
     store(
-        setup::write(&Table::read(table), out).map(length_words),
+        setup::write(&words::held(table), out).map(length_words),
         written,
     )
 }
@@ -236,6 +242,17 @@ pub extern "C" fn ribascenzo_message_write(kind: u8, a: u8, b: u8, out: &mut [u8
 
 // HOW A CALL ANSWERS
 
+// The words of the state in which a sound table begins. A function of its own, not inlined: a setup that is refused makes no room for a state.
+#[inline(never)]
+fn begin(table: &Table, s: &mut [u32; STATE]) -> Refusal
+    requires sound { tableb longest most_work table.now ≡ true }
+    requires sized { Sized table.now }
+    ensures refusal { result ≡ none }
+    ensures state { s.new ≡ state_words (fresh_of table.now).state }
+{
+    store(State::fresh(table), s)
+}
+
 // A call on the thing that words hold. Where it is accepted they hold what it leaves; a refused call stores nothing.
 fn change<T: Words, A, F: FnOnce(&mut T) -> Result<A, Reason>>(
     w: &mut [u32],
@@ -246,7 +263,8 @@ fn change<T: Words, A, F: FnOnce(&mut T) -> Result<A, Reason>>(
     requires fits { (r : Result A Reason) (x : T) → FnOnceReturnsAtMut F.FnOnce call (T.held w.old) r x → IfOk r (λ _. T.fits x) }
     ensures { (x : T) × FnOnceReturnsAtMut F.FnOnce call (T.held w.old) result x × MatchResult result (λ _. w.new ≡ T.words x) (λ _. w.new ≡ w.old) }
 {
-    let mut x = T::read(w);
+    let mut x = T::blank();
+    x.read(w);
     let answer = call(&mut x)?;
     x.put(w);
     Ok(answer)
@@ -300,7 +318,7 @@ fn budget_of(s: &[u32; STATE], server: u8) -> Result<Served, Reason>
     ensures refusal { refusal_in result ≡ budget_refusal (state_in s.now) server }
     ensures budget { IfOk result (λ b. b ≡ (entry_at (state_in s.now) server).budget) }
 {
-    let state = State::read(s);
+    let state: State = words::held(s);
     let i = place_of(&state, server)?;
     Ok(state.entries[i].budget)
 }
@@ -309,7 +327,7 @@ fn load_of(s: &[u32; STATE], server: u8, task: u8) -> Result<Load, Reason>
     ensures refusal { refusal_in result ≡ load_refusal (state_in s.now) server task }
     ensures load { IfOk result (λ l. l ≡ load_at (state_in s.now) server task) }
 {
-    let state = State::read(s);
+    let state: State = words::held(s);
     let i = place_of(&state, server)?;
     let j = task as usize;
     if state.table.servers[i].count <= j {

@@ -2,6 +2,7 @@
 // value that no sound one has, so that a call on them is refused with 31.
 ghost use Rattle.std.specs.Prelude.{◌≡◌, [], ◌∷◌, ◌+◌, ◌*◌, ◌≤◌, ◌<◌, ℕ, List, length, take, drop};
 ghost use Rattle.small.specs.Small.{each, All};
+ghost use Rattle.queue.specs.Limits.{cell_count};
 ghost use Rattle.queue.specs.declared.Cell.{Cell};
 ghost use Rattle.queue.specs.declared.Queue.{Queue};
 ghost use Rattle.table.specs.declared.Task.{Task};
@@ -17,7 +18,6 @@ ghost use Rattle.port.specs.Layout.{queue_size, load_size, entry_size, task_size
 
 use queue::{Cell, Distance, Queue};
 use state::{Entry, Load, State};
-use std::array;
 use table::{Release, Served, Server, Table, Task};
 
 // How many words a queue, a table and a state take, as the exports name them.
@@ -47,9 +47,13 @@ pub(crate) trait Words: Copy {
 
     const SIZE: usize;
 
-    fn read(w: &[u32]) -> Self
+    // A thing to read into: any will do.
+    fn blank() -> Self;
+
+    // What the words hold, in place: a state that is made part by part is copied part by part.
+    fn read(&mut self, w: &[u32])
         requires { SIZE ≤ length w.now }
-        ensures { result ≡ held w.now };
+        ensures { self.new ≡ held w.now };
 
     fn put(&self, w: &mut [u32])
         requires room { length w.old ≡ SIZE }
@@ -57,17 +61,24 @@ pub(crate) trait Words: Copy {
         ensures { w.new ≡ words self.now };
 }
 
-// N things, one behind the other.
-fn read_all<T: Words, const N: usize>(w: &[u32]) -> [T; N]
-    requires { T.SIZE * N ≤ length w.now }
-    ensures { result ≡ many_in T.SIZE T.held N w.now }
+// The thing that words hold.
+pub(crate) fn held<T: Words>(w: &[u32]) -> T
+    requires { T.SIZE ≤ length w.now }
+    ensures { result ≡ T.held w.now }
 {
-    array::from_fn(
-        |i| -> T
-            requires { T.SIZE * (i + 1) ≤ length w.now }
-            ensures { result ≡ T.held (drop (T.SIZE * i) w.entry.now) }
-        { T::read(&w[T::SIZE * i..]) },
-    )
+    let mut x = T::blank();
+    x.read(w);
+    x
+}
+
+// N things, one behind the other: by index, each from its own words.
+fn read_all<T: Words, const N: usize>(all: &mut [T; N], w: &[u32])
+    requires { T.SIZE * N ≤ length w.now }
+    ensures { all.new ≡ many_in T.SIZE T.held N w.now }
+{
+    for i in 0..N {
+        all[i].read(&w[T::SIZE * i..]);
+    }
 }
 
 fn put_all<T: Words, const N: usize>(all: &[T; N], w: &mut [u32])
@@ -93,10 +104,12 @@ impl<const N: usize> Words for [u32; N] {
 
     const SIZE: usize = N;
 
-    fn read(w: &[u32]) -> [u32; N] {
-        let mut all = [0; N];
-        all.copy_from_slice(&w[..N]);
-        all
+    fn blank() -> [u32; N] {
+        [0; N]
+    }
+
+    fn read(&mut self, w: &[u32]) {
+        self.copy_from_slice(&w[..N]);
     }
 
     fn put(&self, w: &mut [u32]) {
@@ -107,6 +120,28 @@ impl<const N: usize> Words for [u32; N] {
 // QUEUES: the number of cells, then each cell's id times 65,536 and its gap
 
 #[tactic(auto, unfolding(crate::specs::Words::cell_in))]
+fn cell_in(word: u32) -> Cell
+    ensures { result ≡ cell_in word }
+{
+    if 16_777_215 < word {
+        return Cell {
+            id: Queue::FILLER,
+            gap: 0,
+        };
+    }
+    Cell {
+        id: (word / 65_536) as u8,
+        gap: (word % 65_536) as u16,
+    }
+}
+
+// By value, as `cell_in` gives it: so a cell is loaded and stored whole.
+fn cell_word(c: Cell) -> u32
+    ensures { result ≡ cell_word c }
+{
+    c.id as u32 * 65_536 + c.gap as u32
+}
+
 impl Words for Cell {
     ghost SIZE = { 1 };
 
@@ -118,22 +153,27 @@ impl Words for Cell {
 
     const SIZE: usize = 1;
 
-    fn read(w: &[u32]) -> Cell {
-        let word = w[0];
-        if 16_777_215 < word {
-            return Cell {
-                id: Queue::FILLER,
-                gap: 0,
-            };
-        }
-        Cell {
-            id: (word / 65_536) as u8,
-            gap: (word % 65_536) as u16,
-        }
+    fn blank() -> Cell {
+        Cell { id: 0, gap: 0 }
+    }
+
+    fn read(&mut self, w: &[u32]) {
+        *self = cell_in(w[0]);
     }
 
     fn put(&self, w: &mut [u32]) {
-        w[0] = self.id as u32 * 65_536 + self.gap as u32;
+        w[0] = cell_word(*self);
+    }
+}
+
+// By value: so it is seen that no store of a word changes a cell, and they are stored four at a time.
+fn put_cells(cells: [Cell; Queue::CELLS], w: &mut [u32])
+    requires { length w.old ≡ cell_count }
+    ensures { w.new ≡ each (λ c. cell_word c ∷ []) cells }
+{
+    for i in 0..Queue::CELLS {
+        let c = cells[i];
+        w[i] = cell_word(c);
     }
 }
 
@@ -149,23 +189,41 @@ impl Words for Queue {
 
     const SIZE: usize = 1 + Cell::SIZE * Queue::CELLS;
 
-    fn read(w: &[u32]) -> Queue {
-        Queue {
-            cells: read_all(&w[1..]),
-            len: w[0] as usize,
-        }
+    fn blank() -> Queue {
+        Queue::empty()
+    }
+
+    fn read(&mut self, w: &[u32]) {
+        self.len = w[0] as usize;
+        read_all(&mut self.cells, &w[1..]);
     }
 
     fn put(&self, w: &mut [u32]) {
         let (count, cells) = w.split_at_mut(1);
         count[0] = self.len as u32;
-        put_all(&self.cells, cells);
+        put_cells(self.cells, cells);
     }
 }
 
 // ENTRIES: the budget, the loads, the queue of arrivals
 
 #[tactic(auto, unfolding(crate::specs::Words::load_in))]
+fn load_in(w: &[u32]) -> Load
+    requires { load_size ≤ length w.now }
+    ensures { result ≡ load_in w.now }
+{
+    let Ok(lost) = u16::try_from(w[1]) else {
+        return Load {
+            pending: Served(u32::MAX),
+            lost: 0,
+        };
+    };
+    Load {
+        pending: Served(w[0]),
+        lost,
+    }
+}
+
 impl Words for Load {
     ghost SIZE = { load_size };
 
@@ -177,17 +235,15 @@ impl Words for Load {
 
     const SIZE: usize = 2;
 
-    fn read(w: &[u32]) -> Load {
-        let Ok(lost) = u16::try_from(w[1]) else {
-            return Load {
-                pending: Served(u32::MAX),
-                lost: 0,
-            };
-        };
+    fn blank() -> Load {
         Load {
-            pending: Served(w[0]),
-            lost,
+            pending: Served(0),
+            lost: 0,
         }
+    }
+
+    fn read(&mut self, w: &[u32]) {
+        *self = load_in(w);
     }
 
     fn put(&self, w: &mut [u32]) {
@@ -207,12 +263,18 @@ impl Words for Entry {
 
     const SIZE: usize = 1 + Load::SIZE * Table::ENTRIES + Queue::SIZE;
 
-    fn read(w: &[u32]) -> Entry {
+    fn blank() -> Entry {
         Entry {
-            loads: read_all(&w[1..]),
-            arrivals: Queue::read(&w[ARRIVALS..]),
-            budget: Served(w[0]),
+            loads: [Load::blank(); Table::ENTRIES],
+            arrivals: Queue::blank(),
+            budget: Served(0),
         }
+    }
+
+    fn read(&mut self, w: &[u32]) {
+        self.budget = Served(w[0]);
+        read_all(&mut self.loads, &w[1..]);
+        self.arrivals.read(&w[ARRIVALS..]);
     }
 
     fn put(&self, w: &mut [u32]) {
@@ -227,6 +289,26 @@ impl Words for Entry {
 // TABLES: the number of servers, then each server: its kind, the number of its tasks, P, C, then each task: its release (0 or 1), E, T, O
 
 #[tactic(auto, unfolding(crate::specs::Words::task_in, crate::specs::Words::release_in))]
+fn task_in(w: &[u32]) -> Task
+    requires { task_size ≤ length w.now }
+    ensures { result ≡ task_in w.now }
+{
+    Task {
+        work: Served(w[1]),
+        release: match (w[0], w[2], w[3]) {
+            (1, period, offset) => Release::Periodic {
+                period: Distance(period),
+                offset: Distance(offset),
+            },
+            (0, 0, 0) => Release::OnArrival,
+            _ => Release::Periodic {
+                period: Distance(0),
+                offset: Distance(0),
+            },
+        },
+    }
+}
+
 impl Words for Task {
     ghost SIZE = { task_size };
 
@@ -238,21 +320,12 @@ impl Words for Task {
 
     const SIZE: usize = 4;
 
-    fn read(w: &[u32]) -> Task {
-        Task {
-            work: Served(w[1]),
-            release: match (w[0], w[2], w[3]) {
-                (1, period, offset) => Release::Periodic {
-                    period: Distance(period),
-                    offset: Distance(offset),
-                },
-                (0, 0, 0) => Release::OnArrival,
-                _ => Release::Periodic {
-                    period: Distance(0),
-                    offset: Distance(0),
-                },
-            },
-        }
+    fn blank() -> Task {
+        Task::zero()
+    }
+
+    fn read(&mut self, w: &[u32]) {
+        *self = task_in(w);
     }
 
     fn put(&self, w: &mut [u32]) {
@@ -273,14 +346,16 @@ impl Words for Server {
 
     const SIZE: usize = 4 + Task::SIZE * Table::ENTRIES;
 
-    fn read(w: &[u32]) -> Server {
-        Server {
-            tasks: read_all(&w[4..]),
-            count: w[1] as usize,
-            kind: w[0].min(255) as u8,
-            period: Distance(w[2]),
-            budget: Served(w[3]),
-        }
+    fn blank() -> Server {
+        Server::zero()
+    }
+
+    fn read(&mut self, w: &[u32]) {
+        self.kind = w[0].min(255) as u8;
+        self.count = w[1] as usize;
+        self.period = Distance(w[2]);
+        self.budget = Served(w[3]);
+        read_all(&mut self.tasks, &w[4..]);
     }
 
     fn put(&self, w: &mut [u32]) {
@@ -308,11 +383,13 @@ impl Words for Table {
 
     const SIZE: usize = 1 + Server::SIZE * Table::ENTRIES;
 
-    fn read(w: &[u32]) -> Table {
-        Table {
-            servers: read_all(&w[1..]),
-            count: w[0] as usize,
-        }
+    fn blank() -> Table {
+        Table::zero()
+    }
+
+    fn read(&mut self, w: &[u32]) {
+        self.count = w[0] as usize;
+        read_all(&mut self.servers, &w[1..]);
     }
 
     fn put(&self, w: &mut [u32]) {
@@ -336,12 +413,18 @@ impl Words for State {
 
     const SIZE: usize = Table::SIZE + Queue::SIZE + Entry::SIZE * Table::ENTRIES;
 
-    fn read(w: &[u32]) -> State {
+    fn blank() -> State {
         State {
-            entries: read_all(&w[ENTRIES..]),
-            table: Table::read(w),
-            refills: Queue::read(&w[TABLE..]),
+            entries: [Entry::blank(); Table::ENTRIES],
+            table: Table::blank(),
+            refills: Queue::blank(),
         }
+    }
+
+    fn read(&mut self, w: &[u32]) {
+        self.table.read(w);
+        self.refills.read(&w[TABLE..]);
+        read_all(&mut self.entries, &w[ENTRIES..]);
     }
 
     fn put(&self, w: &mut [u32]) {

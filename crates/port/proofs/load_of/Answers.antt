@@ -8,9 +8,9 @@ use Rattle.port.proofs.Ranges.{place_few, tasks_few}
 use Rattle.port.proofs.load_of.Goals as goal
 
 pub bounds-state-i : goal.bounds-state-i
-bounds-state-i c = let h = c.in_ok-i.ensures in omega (arith, place_few c.read-state.result c.args.server h.refusal, h.place)
+bounds-state-i c = let h = c.in_ok-i.ensures in omega (arith, place_few c.held-state.result c.args.server h.refusal, h.place)
 
 pub bounds-state-j : goal.bounds-state-j
 bounds-state-j c = let h = c.in_ok-i.ensures in
-    let few = tasks_few c.read-state.result c.args.server h.refusal past_server (let z : length c.read-state.result.table.servers ≡ entries = rw c.read-state.ensures (state_in_full c.args.s.now).table.count in z) in
+    let few = tasks_few c.held-state.result c.args.server h.refusal past_server (let z : length c.held-state.result.table.servers ≡ entries = rw c.held-state.ensures (state_in_full c.args.s.now).table.count in z) in
     omega (arith, rw h.place at c.if-state-i.false, few)

@@ -1,11 +1,13 @@
--- `ribascenzo_fresh` meets its contract: a state is made of an accepted setup's table, which is what the words then hold (`fresh_stored`). Assumes nothing.
-use Rattle.port.proofs.Answering.{fresh_fits, fresh_stored}
+-- `ribascenzo_fresh` meets its contract: an accepted setup's table is sound (`read_sound`), and the words then hold the state in which it begins. Assumes nothing.
+use Rattle.port.proofs.Answering.{read_sound}
 use Rattle.port.proofs.ribascenzo_fresh.Goals as goal
 
-pub store-requires-clause-fits : goal.store-requires-clause-fits
-store-requires-clause-fits c = fresh_fits c.args.setup.now c.in-Ok.table c.in-Ok.ensures c.fresh.result c.fresh.ensures
+pub begin-requires-clause-sound : goal.begin-requires-clause-sound
+begin-requires-clause-sound c = (read_sound c.args.setup.now c.in-Ok.table c.in-Ok.ensures).0
+
+pub begin-requires-clause-sized : goal.begin-requires-clause-sized
+begin-requires-clause-sized c = (read_sound c.args.setup.now c.in-Ok.table c.in-Ok.ensures).1
 
 pub returns-in-Ok : goal.returns-in-Ok
 returns-in-Ok c =
-    let h = fresh_stored c.args.setup.now c.in-Ok.table c.in-Ok.ensures c.fresh.result c.fresh.ensures c.store.result c.store.new.w c.args.s.now c.store.ensures in
-    record { refusal = h.0; state = h.1 }
+    rw (← c.in-Ok.ensures) record { refusal = c.begin.ensures.refusal; state = c.begin.ensures.state }

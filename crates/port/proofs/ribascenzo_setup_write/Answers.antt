@@ -4,4 +4,4 @@ use Rattle.port.proofs.Answering.{length_fits}
 use Rattle.port.proofs.ribascenzo_setup_write.Goals as goal
 
 pub map-requires : goal.map-requires
-map-requires c = λ n e. rw e at (length_fits c.args.table.now (length c.args.out.now) c.write.result (rw (← c.read.ensures) c.write.ensures.answer))
+map-requires c = λ n e. rw e at (length_fits c.args.table.now (length c.args.out.now) c.write.result (rw (← c.held.ensures) c.write.ensures.answer))

@@ -55,6 +55,13 @@ met_one (Ok l) (Err m) d e h = absurd (let g = ap (λ (x : Met). x.stop) h in cc
 met_one (Err l) (Ok m) d e h = absurd (let g = ap (λ (x : Met). x.stop) h in cc)
 met_one (Err l) (Err m) d e h = λ i. (Err (h i).line, (h i).desk)
 
+-- and before the line of a refusal is made
+pub decided_one : (k : ℕ) (a b : Result Line Reason) (d e : Desk) → decided_by k a d ≡ decided_by k b e → ◌≡◌ {A = Result Line Reason × Desk} (a, d) (b, e)
+decided_one k (Ok l) (Ok m) d e h = λ i. (Ok (h i).line, (h i).desk)
+decided_one k (Ok l) (Err s) d e h = absurd (let g = ap (λ (x : Met). x.stop) h in cc)
+decided_one k (Err r) (Ok m) d e h = absurd (let g = ap (λ (x : Met). x.stop) h in cc)
+decided_one k (Err r) (Err s) d e h = let g = number_one r s (ap (λ (x : Met). line_number x.line) h) in λ i. (Err (g i), (h i).desk)
+
 -- a batch's
 pub ran_one : (a b : Result Ran Reason) (d e : Desk) → ran_by a d ≡ ran_by b e → ◌≡◌ {A = Result Ran Reason × Desk} (a, d) (b, e)
 ran_one (Ok r) (Ok s) d e h = λ i. (Ok record { answers = (h i).answers; first = (h i).first; count = (h i).count }, (h i).desk)
